@@ -1,0 +1,11 @@
+pub mod Radix
+pub mod Hexadecimal
+pub mod Exactness
+pub mod Places
+pub mod Shown
+pub mod Canon
+pub mod Alike
+pub mod Reading
+pub mod Plain
+pub mod Splits
+pub mod Writes

@@ -1,0 +1,9 @@
+pub mod Range
+pub mod Texts
+pub mod Words
+pub mod Numerals
+pub mod Numbers
+pub mod Scans
+pub mod Masks
+pub mod Fields
+pub mod Writing

@@ -1,0 +1,26 @@
+// The grammar of command lines and replies.
+pub mod output;
+pub mod counts;
+mod digits;
+pub mod fields;
+pub mod masks;
+pub mod numbers;
+pub mod quantity;
+pub mod text;
+pub mod typed;
+pub mod words;
+
+pub use output::append;
+pub use counts::print_count;
+pub use counts::read_index;
+pub use fields::Fields;
+pub use fields::split_fields;
+pub use masks::print_mask;
+pub use masks::read_mask;
+pub use numbers::print_number;
+pub use numbers::read_number;
+pub use quantity::Quantity;
+pub use text::Text;
+pub use typed::is_text;
+pub use typed::read_text;
+pub use words::same_word;
