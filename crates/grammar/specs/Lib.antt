@@ -7,3 +7,4 @@ pub mod Scans
 pub mod Masks
 pub mod Fields
 pub mod Writing
+pub mod Examples

@@ -5,8 +5,8 @@ use mathlib.Core.List.{List, [], _∷_, _++_}
 use Prim.Native.Nat.{ℕ, zero, suc, _+_, _-_, _*_, _/_, _%_, _^_, _≤_, _<_}
 use lib.Dec.{eqb, ltb}
 use lib.IntN.{ℤ, pos, negsuc, negℤ, natAbs}
-use lib.ListN.{length, getD}
-use Rattle.std.specs.Options.{mapped}
+use lib.ListN.{length, getD, take}
+use Rattle.std.specs.Options.{isSome, mapped}
 use Rattle.std.specs.Reads.{Digits, value}
 use Rattle.std.specs.Text.{asciiDigit}
 use Rattle.std.specs.declared.option.Option.{Option}
@@ -87,6 +87,12 @@ numberOf (c ∷ cs) = cond (eqb c 45) (mapped (signed true) (beforePoint 0 0 cs)
 -- the two agree: bytes are read exactly where they have lawful parts, and as the value of these
 abbrev pub Exact : List ℕ → Type 0
 Exact bs = (v : ℤ) → (numberOf bs ≡ Some v → Reads bs v) × (Reads bs v → numberOf bs ≡ Some v)
+
+-- some number begins with the first k of these bytes, and none with more of them
+pub record LongestBeginning (bs : List ℕ) (k : ℕ) : Type 0 where
+  pub within : k ≤ length bs
+  pub begins : (cs : List ℕ) × (isSome (numberOf (take k bs ++ cs)) ≡ true)
+  pub stops : (j : ℕ) → k < j → j ≤ length bs → (cs : List ℕ) → numberOf (take j bs ++ cs) ≡ None
 
 -- PRINTING
 

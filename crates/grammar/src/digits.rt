@@ -5,7 +5,7 @@ ghost use Prim.Native.Nat.{ℕ, _+_, _^_, _≤_, _<_};
 ghost use lib.ListN.{length};
 ghost use Rattle.std.specs.Options.{Cases as BySome};
 ghost use Rattle.std.specs.Text.{digitValue};
-ghost use Rattle.grammar.specs.Numerals.{numeralOf, numeral, digitChar};
+ghost use Rattle.grammar.specs.Numerals.{numeralOf, ExactNumeral, numeral, digitChar};
 ghost use Rattle.grammar.specs.Texts.{bytesOf};
 use crate::text::Text;
 
@@ -13,6 +13,8 @@ use crate::text::Text;
 pub(crate) fn read_digits(text: &[u8], base: u32, most: usize) -> Option<u32>
     requires { ⌜ 2 ≤ base ⌝ ∗ ⌜ base ≤ 36 ⌝ ∗ ⌜ base ^ most ≤ 2 ^ 32 ⌝ }
     ensures value { λ r. ⌜ r ≡ numeralOf base most (now (text .entry)) ⌝ }
+    ensures bound { λ r. ⌜ BySome r (Unit {0}) (λ n. n < base ^ most) ⌝ }
+    ensures exact { λ _. ⌜ ExactNumeral base most (now (text .entry)) ⌝ }
 {
     if text.is_empty() {
         return None;

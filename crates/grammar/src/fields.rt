@@ -24,7 +24,12 @@ pub fn split_fields(line: &[u8]) -> Fields<'_>
     let (first, rest) = split_first(line);
     let (second, rest) = split_next(rest);
     let (third, _) = split_next(rest);
-    Fields { first, second, third, count: count_fields(line) }
+    Fields {
+        first,
+        second,
+        third,
+        count: count_fields(line),
+    }
 }
 
 // The first field of a line, and what follows its colon if it has one.

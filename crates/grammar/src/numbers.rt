@@ -4,4 +4,5 @@ mod read;
 mod scan;
 
 pub use print::print_number;
+pub use read::number_prefix;
 pub use read::read_number;

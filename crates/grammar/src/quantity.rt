@@ -16,6 +16,7 @@ pub struct Quantity {
 
 impl Quantity {
     const LEAST: i64 = -9_999_999_999;
+
     const MOST: i64 = 9_999_999_999;
 
     // The quantity of these millionths; none where they are out of range.
@@ -36,10 +37,14 @@ impl Quantity {
         ensures value { λ r. ⌜ r .millionths ≡ clamp millionths ⌝ }
     {
         if millionths < Self::LEAST {
-            return Quantity { millionths: Self::LEAST };
+            return Quantity {
+                millionths: Self::LEAST,
+            };
         }
         if millionths > Self::MOST {
-            return Quantity { millionths: Self::MOST };
+            return Quantity {
+                millionths: Self::MOST,
+            };
         }
         Quantity { millionths }
     }

@@ -1,6 +1,7 @@
 // Texts as people type them: 1 to 24 bytes from 32 to 126, without colon or question mark.
 ghost use mathlib.Core.Path.{_≡_};
-ghost use mathlib.Core.Bool.{true, false};
+ghost use mathlib.Core.Bool.{true, false, _&&_};
+ghost use lib.Dec.{leb};
 ghost use Rattle.std.specs.Options.{Cases as BySome};
 ghost use Rattle.std.specs.Orderings.{Decides};
 ghost use Rattle.grammar.specs.Texts.{bytesOf, textByte, isText, IsText};
@@ -11,10 +12,7 @@ pub fn is_text(bytes: &[u8]) -> bool
     ensures value { λ r. ⌜ r ≡ isText (now (bytes .entry)) ⌝ }
     ensures exact { λ r. ⌜ Decides r (IsText (now (bytes .entry))) ⌝ }
 {
-    if bytes.is_empty() {
-        return false;
-    }
-    if bytes.len() > Text::MOST {
+    if !is_text_length(bytes.len()) {
         return false;
     }
     for c in bytes {
@@ -29,7 +27,17 @@ pub fn is_text(bytes: &[u8]) -> bool
 pub fn read_text(bytes: &[u8]) -> Option<Text>
     ensures cases { λ r. ⌜ BySome r (isText (now (bytes .entry)) ≡ false) (λ t. (isText (now (bytes .entry)) ≡ true) × (bytesOf t ≡ now (bytes .entry))) ⌝ }
 {
-    if is_text(bytes) { Text::new(bytes) } else { None }
+    if is_text(bytes) {
+        Text::new(bytes)
+    } else {
+        None
+    }
+}
+
+fn is_text_length(n: usize) -> bool
+    ensures value { λ r. ⌜ r ≡ leb 1 n && leb n 24 ⌝ }
+{
+    n >= 1 && n <= Text::MOST
 }
 
 fn is_text_byte(c: u8) -> bool

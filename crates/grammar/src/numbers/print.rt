@@ -1,9 +1,10 @@
 // Printing a number: the one plain form that reads back as itself.
 ghost use mathlib.Core.Path.{_≡_};
 ghost use mathlib.Core.List.{List, [], _∷_, _++_};
-ghost use Prim.Native.Nat.{ℕ, _+_, _≤_, _<_, _^_};
+ghost use Prim.Native.Nat.{ℕ, _+_, _%_, _^_, _≤_, _<_};
+ghost use lib.Dec.{eqb};
 ghost use lib.ListN.{length};
-ghost use Rattle.grammar.specs.Numbers.{millionthsOf, places, trimmed, shown, signText, pointed, printed, Canonical};
+ghost use Rattle.grammar.specs.Numbers.{places, trimmed, shown, signText, pointed, printed, Canonical};
 ghost use Rattle.grammar.specs.Numerals.{numeral};
 ghost use Rattle.grammar.specs.Texts.{bytesOf};
 use crate::digits::push_digits;
@@ -60,7 +61,7 @@ fn push_trimmed(text: &mut Text, k: usize, n: u64)
     if k == 0 {
         return;
     }
-    if n % 10 == 0 {
+    if ends_in_zero(n) {
         return push_trimmed(text, k - 1, n / 10);
     }
     text.push(b'.');
@@ -77,4 +78,10 @@ fn push_places(text: &mut Text, k: usize, n: u64)
     }
     push_places(text, k - 1, n / 10);
     text.push(b'0' + (n % 10) as u8);
+}
+
+fn ends_in_zero(n: u64) -> bool
+    ensures value { λ r. ⌜ r ≡ eqb (n % 10) 0 ⌝ }
+{
+    n % 10 == 0
 }

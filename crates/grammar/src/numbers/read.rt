@@ -1,7 +1,7 @@
-// Reading a number, in one pass over its bytes.
+// Reading a number, in one pass over its bytes, and finding where bytes stop being one.
 ghost use mathlib.Core.Path.{_≡_};
 ghost use Rattle.std.specs.Options.{mapped};
-ghost use Rattle.grammar.specs.Numbers.{millionthsOf, numberOf, Exact};
+ghost use Rattle.grammar.specs.Numbers.{millionthsOf, numberOf, Exact, LongestBeginning};
 use super::scan::Scan;
 use crate::quantity::Quantity;
 
@@ -18,4 +18,18 @@ pub fn read_number(text: &[u8]) -> Option<Quantity>
         }
     }
     scan.finish()
+}
+
+// How many of these bytes some number begins with: where they stop being one, for an error message.
+pub fn number_prefix(text: &[u8]) -> usize
+    ensures value { λ r. ⌜ LongestBeginning (now (text .entry)) r ⌝ }
+{
+    let mut scan = Scan::Start;
+    for (i, c) in text.iter().enumerate() {
+        match scan.accept(*c) {
+            Some(next) => scan = next,
+            None => return i,
+        }
+    }
+    text.len()
 }

@@ -19,6 +19,7 @@ pub(crate) enum Scan {
 
 // The most digits before the point, and after it.
 const WHOLE_DIGITS: usize = 4;
+
 const FRACTION_DIGITS: usize = 6;
 
 impl Scan {
@@ -39,7 +40,11 @@ impl Scan {
         ensures steps { λ r. ⌜ Steps self 45 r ⌝ }
     {
         match self {
-            Scan::Start => Some(Scan::Whole { minus: true, count: 0, n: 0 }),
+            Scan::Start => Some(Scan::Whole {
+                minus: true,
+                count: 0,
+                n: 0,
+            }),
             Scan::Whole { .. } => None,
             Scan::Fraction { .. } => None,
         }
@@ -66,18 +71,30 @@ impl Scan {
         ensures steps { λ r. ⌜ Steps self c r ⌝ }
     {
         match self {
-            Scan::Start => Some(Scan::Whole { minus: false, count: 1, n: (c - b'0') as u64 }),
+            Scan::Start => Some(Scan::Whole {
+                minus: false,
+                count: 1,
+                n: (c - b'0') as u64,
+            }),
             Scan::Whole { minus, count, n } => {
                 if count == WHOLE_DIGITS {
                     return None;
                 }
-                Some(Scan::Whole { minus, count: count + 1, n: with_digit(n, count, c) })
+                Some(Scan::Whole {
+                    minus,
+                    count: count + 1,
+                    n: with_digit(n, count, c),
+                })
             }
             Scan::Fraction { minus, count, n } => {
                 if count == FRACTION_DIGITS {
                     return None;
                 }
-                Some(Scan::Fraction { minus, count: count + 1, n: with_digit(n, WHOLE_DIGITS + count, c) })
+                Some(Scan::Fraction {
+                    minus,
+                    count: count + 1,
+                    n: with_digit(n, WHOLE_DIGITS + count, c),
+                })
             }
         }
     }

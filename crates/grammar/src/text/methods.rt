@@ -17,7 +17,10 @@ impl Text {
     pub fn absent() -> Text
         ensures value { λ r. ⌜ bytesOf r ≡ [] ⌝ }
     {
-        Text { bytes: [0; 24], len: 0 }
+        Text {
+            bytes: [0; 24],
+            len: 0,
+        }
     }
 
     // These bytes, whatever they are; none where there are more than 24.

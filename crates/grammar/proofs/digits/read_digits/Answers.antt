@@ -7,17 +7,21 @@ use Rattle.std.specs.Reads.{Digits, value}
 use Rattle.std.specs.Text.{digitValue}
 use Rattle.std.proofs.shelf.Digits.{value-more, digits-more}
 use Rattle.std.proofs.shelf.Lists.{take-all, length-take-le}
-use Rattle.grammar.proofs.Radix.{not-read, no-digit, read, room}
+use Rattle.grammar.proofs.Radix.{not-read, no-digit, read, room, reads-exactly}
 use Rattle.grammar.proofs.digits.read_digits.Needs as need
 
 pub returns-then-is-empty : need.returns-then-is-empty
 returns-then-is-empty c = record {
   value = not-read (c .args .base) (c .args .most) (c .args .text .now) (λ n r. let some = r .some in let none : length (c .args .text .now) ≡ 0 = search needs in omega arith);
+  bound = tt;
+  exact = reads-exactly (c .args .base) (c .args .most) (c .args .text .now);
 }
 
 pub returns-then-text-most : need.returns-then-text-most
 returns-then-text-most c = record {
   value = not-read (c .args .base) (c .args .most) (c .args .text .now) (λ n r. let few = r .few in omega (arith, c .if-text-most .taken));
+  bound = tt;
+  exact = reads-exactly (c .args .base) (c .args .most) (c .args .text .now);
 }
 
 -- one digit more
@@ -47,7 +51,11 @@ pub add-n : need.add-n
 add-n c = let f = fits c in omega arith
 
 pub returns-in-None : need.returns-in-None
-returns-in-None c = record { value = no-digit (c .args .base) (c .args .most) (c .args .text .now) (c .loop-c .c-index) (c .loop-c-test .taken) (λ l. let big = c .in-None .ensures tt .cases in omega arith) }
+returns-in-None c = record {
+  value = no-digit (c .args .base) (c .args .most) (c .args .text .now) (c .loop-c .c-index) (c .loop-c-test .taken) (λ l. let big = c .in-None .ensures tt .cases in omega arith);
+  bound = tt;
+  exact = reads-exactly (c .args .base) (c .args .most) (c .args .text .now);
+}
 
 pub loop-c-again : need.loop-c-again
 loop-c-again c = (size c, more c)
@@ -56,6 +64,10 @@ pub returns : need.returns
 returns c =
     let e = take-all (c .loop-c .c-index) (c .args .text .now) (c .loop-c-test .left) in
     let some : 1 ≤ length (c .args .text .now) = search needs in
+    let all : Digits (c .args .base) (c .args .text .now) = subst (Digits (c .args .base)) e (c .loop-c .inv .1) in
+    let size = c .loop-c .inv .0 ∙ ap (value (c .args .base)) e in
     record {
-      value = sym (read (record { digits = subst (Digits (c .args .base)) e (c .loop-c .inv .1); some = some; few = c .if-text-most .left; size = c .loop-c .inv .0 ∙ ap (value (c .args .base)) e }));
+      value = sym (read (record { digits = all; some = some; few = c .if-text-most .left; size = size }));
+      bound = omega (arith, size, room (c .args .base) (c .args .text .now) (c .args .most) (omega (arith, c .pre .0)) all (c .if-text-most .left));
+      exact = reads-exactly (c .args .base) (c .args .most) (c .args .text .now);
     }

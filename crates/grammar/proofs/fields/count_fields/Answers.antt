@@ -10,9 +10,10 @@ pub loop-b-again : need.loop-b-again
 loop-b-again c =
     let s : List ℕ = c .args .line .now in
     let i : ℕ = c .loop-b .b-index in
-    elim (c .if-b-eq58 .came)
-    [ then-b-eq58 w ↦ (omega (arith, w .n-is), omega (arith, w .n-is, count-found s i (c .loop-b-test .taken) (w .if-b-eq58 .taken)))
-    | else-b-eq58 w ↦ (omega (arith, w .n-is), omega (arith, w .n-is, count-other s i (c .loop-b-test .taken) (w .if-b-eq58 .left))) ]
+    elim (c .if-b-eq58 .came) [
+      | then-b-eq58 w ↦ (omega (arith, w .n-is), omega (arith, w .n-is, count-found s i (c .loop-b-test .taken) (w .if-b-eq58 .taken)))
+      | else-b-eq58 w ↦ (omega (arith, w .n-is), omega (arith, w .n-is, count-other s i (c .loop-b-test .taken) (w .if-b-eq58 .left)))
+    ]
 
 pub returns : need.returns
 returns c = omega (arith, count-end (c .args .line .now) (c .loop-b .b-index) (omega arith))

@@ -14,8 +14,10 @@ loop-i-holds c = sym (front-none (c .args .line .now))
 
 pub returns-then-b-eq58 : need.returns-then-b-eq58
 returns-then-b-eq58 c =
-    record { value = simp (sub-zero, between-to-end (c .args .line .now) (c .loop-i .i + 1) (length (c .args .line .now)) (omega arith))
-    (c .loop-i .inv ∙ front-found (c .args .line .now) (c .loop-i .i) (c .loop-i-test .taken) (c .if-b-eq58 .taken)) }
+    record {
+      value = simp (sub-zero, between-to-end (c .args .line .now) (c .loop-i .i + 1) (length (c .args .line .now)) (omega arith))
+          (c .loop-i .inv ∙ front-found (c .args .line .now) (c .loop-i .i) (c .loop-i-test .taken) (c .if-b-eq58 .taken));
+    }
 
 pub loop-i-again : need.loop-i-again
 loop-i-again c = c .loop-i .inv ∙ front-more (c .args .line .now) (c .loop-i .i) (c .loop-i-test .taken) (c .if-b-eq58 .left)

@@ -1,10 +1,10 @@
 use mathlib.Core.Path.{_≡_, sym, ap, subst, _∙_}
-use Prim.Native.Nat.{_≤_}
-use borrow.Author.Needs.{needs}
+use lib.Dec.{leb}
 use lib.ListN.{length, getD}
 use Rattle.std.specs.shelf.Lists.{All}
 use Rattle.std.proofs.shelf.Elements.{all-more}
 use Rattle.std.proofs.shelf.Lists.{take-all}
+use Rattle.std.proofs.shelf.Tests.{and-parts, leb-true}
 use Rattle.grammar.specs.Texts.{TextByte}
 use Rattle.grammar.proofs.Plain.{refused, accepted, bad-byte, good-byte}
 use Rattle.grammar.proofs.typed.is_text.Needs as need
@@ -21,6 +21,6 @@ loop-c-again c =
 pub returns : need.returns
 returns c =
     let e = take-all (c .loop-c .c-index) (c .args .bytes .now) (c .loop-c-test .left) in
-    let some : 1 ≤ length (c .args .bytes .now) = search needs in
-    let r = accepted (c .args .bytes .now) (record { some = some; few = c .if-bytes-gt-MOST .left; bytes = subst (All TextByte) e (c .loop-c .inv) }) in
+    let fits = and-parts (leb 1 (length (c .args .bytes .now))) (leb (length (c .args .bytes .now)) 24) (sym (c .if-not-is-text-length .ensures tt .value)) in
+    let r = accepted (c .args .bytes .now) (record { some = leb-true _ _ (fits .0); few = leb-true _ _ (fits .1); bytes = subst (All TextByte) e (c .loop-c .inv) }) in
     record { value = r .value; exact = r .decides }

@@ -3,4 +3,4 @@ use Rattle.std.proofs.shelf.Lists.{take-more-set}
 use Rattle.grammar.proofs.text.Text.push.Needs as need
 
 pub returns : need.returns
-returns c = record { bytes = take-more-set (c .args .self .now .bytes) (c .args .self .now .len) (c .args .b)(search needs) }
+returns c = record { bytes = take-more-set (c .args .self .now .bytes) (c .args .self .now .len) (c .args .b) (search needs) }
