@@ -1,0 +1,111 @@
+// A tour of what stands so far, told in printed notes.
+mod setpoints;
+
+use grammar::Text;
+use grammar::read_number;
+use setpoints::Fault;
+use setpoints::Verdict;
+use setpoints::assess;
+use std::io;
+
+// Setpoints in amperes, as people at a laboratory typed them.
+const TYPED: [&str; 12] = [
+    "-0",
+    "007.50",
+    "10.5875",
+    "-2.000001",
+    "9999.999999",
+    "10000",
+    "1.0000001",
+    "5,2",
+    "1e3",
+    ".5",
+    "12.",
+    "",
+];
+
+fn main(rt: LibcRuntime) -> io::Result<()> {
+    review_setpoints(&rt)
+}
+
+// The lab's list, one line for each setpoint.
+fn review_setpoints(rt: &LibcRuntime) -> io::Result<()> {
+    println!(rt, "1. Setpoints as people typed them")?;
+    println!(rt, "")?;
+    println!(
+        rt,
+        "A laboratory hands over a list of setpoints in amperes. The supply counts in whole"
+    )?;
+    println!(
+        rt,
+        "millionths. It takes a number in one form only: an optional minus, one to four digits,"
+    )?;
+    println!(
+        rt,
+        "then perhaps a point and one to six digits. And it prints each value in one form only."
+    )?;
+    println!(
+        rt,
+        "Below is what was typed, the millionths that it stands for, and what the supply prints,"
+    )?;
+    println!(
+        rt,
+        "which is then read again. What is no number is refused, and never guessed at."
+    )?;
+    println!(rt, "")?;
+    for typed in &TYPED {
+        show_setpoint(rt, typed)?;
+    }
+    println!(rt, "")?;
+    println!(
+        rt,
+        "That a printed value reads back as itself, and that no other plain text stands for it,"
+    )?;
+    println!(
+        rt,
+        "is proved for every quantity, and not only seen in this list."
+    )
+}
+
+fn show_setpoint(rt: &LibcRuntime, typed: &str) -> io::Result<()> {
+    match assess(typed.as_bytes()) {
+        Verdict::Taken { quantity, printed } => {
+            let millionths = quantity.millionths();
+            let text = text_of(&printed);
+            let back = back_again(&printed, millionths);
+            println!(
+                rt,
+                "  '{typed}' is {millionths} millionths, and prints as {text}, which {back}."
+            )
+        }
+        Verdict::Refused { at, fault } => {
+            let place = at.saturating_add(1);
+            let reason = explain(fault);
+            println!(rt, "  '{typed}' is refused at byte {place}: {reason}.")
+        }
+    }
+}
+
+// The printed form, as text for the screen.
+fn text_of(printed: &Text) -> &str {
+    match std::str::from_utf8(printed.as_bytes()) {
+        Ok(text) => text,
+        Err(_) => "(not text)",
+    }
+}
+
+fn back_again(printed: &Text, millionths: i64) -> &'static str {
+    match read_number(printed.as_bytes()) {
+        Some(q) if q.millionths() == millionths => "reads back the same",
+        _ => "DOES NOT READ BACK",
+    }
+}
+
+fn explain(fault: Fault) -> &'static str {
+    match fault {
+        Fault::EndsEarly => "it ends where a digit is still wanted",
+        Fault::WholeDigit => "a fifth digit stands before the point, where four are the most",
+        Fault::Decimal => "a seventh digit stands after the point, where six are the most",
+        Fault::OtherByte => "a number goes on here with a digit, or with a point after a digit",
+    }
+}
