@@ -1,0 +1,4 @@
+pub mod Meaning
+pub mod Rated
+pub mod Magnets
+pub mod Recordings
