@@ -6,7 +6,7 @@ use lib.Dec.{ltb}
 use lib.IntN.{ℤ, pos, _+ℤ_, _-ℤ_, natAbs}
 use lib.Signed.{_≤ℤ_, quotZ}
 use Rattle.power.specs.Meaning.{Readings, Meaning}
-use Rattle.power.specs.Rated.{standardRatings}
+use Rattle.power.specs.Settings.{at, start}
 use Rattle.power.specs.declared.loops.Loop.{Loop}
 use Rattle.power.specs.declared.loops.Loop.the-variants.{I, V}
 use Rattle.power.specs.declared.magnet.Magnet.{Magnet}
@@ -36,11 +36,11 @@ abbrev pub readingsAt : ℤ → Readings
 readingsAt c = record { lines = heatLine c; current = c; voltage = c +ℤ c; temperatures = pos (heat c) ∷ [] }
 
 abbrev pub magnetMeaning : Magnet → Meaning
-magnetMeaning m = record { on = m .on; loop = m .chosen; demand = m .demand .millionths; readings = readingsAt (m .current .millionths); ratings = standardRatings }
+magnetMeaning m = at (m .setting) (readingsAt (m .current .millionths))
 
 -- off, loop I, demand 0, current 0
 abbrev pub magnetStart : Meaning
-magnetStart = record { on = false; loop = I; demand = pos 0; readings = readingsAt (pos 0); ratings = standardRatings }
+magnetStart = start (readingsAt (pos 0))
 
 -- OVER MANY ADVANCES
 

@@ -1,5 +1,4 @@
 -- The recording: which record it shows, and what readings that gives. Assumes nothing.
-use mathlib.Core.Bool.{false}
 use mathlib.Core.List.{List, [], _∷_}
 use Prim.Native.Nat.{ℕ, _+_, min}
 use lib.Bits.{bitAnd}
@@ -8,8 +7,7 @@ use lib.ListN.{length, getD}
 use Rattle.grammar.specs.Range.{clamp}
 use Rattle.std.specs.Of.Vec.{vec-items}
 use Rattle.power.specs.Meaning.{Readings, Meaning, tripLines}
-use Rattle.power.specs.Rated.{standardRatings}
-use Rattle.power.specs.declared.loops.Loop.the-variants.{I}
+use Rattle.power.specs.Settings.{at, start}
 use Rattle.power.specs.declared.recording.Record.{Record}
 use Rattle.power.specs.declared.recording.Recording.{Recording}
 
@@ -42,11 +40,11 @@ abbrev pub placeOf : Recording → ℕ
 placeOf r = r .place
 
 abbrev pub recordingMeaning : Recording → Meaning
-recordingMeaning r = record { on = r .on; loop = r .chosen; demand = r .demand .millionths; readings = shownOf (recordsOf r) (placeOf r); ratings = standardRatings }
+recordingMeaning r = at (r .setting) (shownOf (recordsOf r) (placeOf r))
 
 -- off, loop I, demand 0, all readings zero
 abbrev pub recordingStart : Meaning
-recordingStart = record { on = false; loop = I; demand = pos 0; readings = readingsOf blank; ratings = standardRatings }
+recordingStart = start (readingsOf blank)
 
 -- the number of the record that is shown n advances after number k: one more each time, and the last one again and again
 abbrev pub placeAfter : List Record → ℕ → ℕ → ℕ

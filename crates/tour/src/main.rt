@@ -1,4 +1,5 @@
 // A tour of what stands so far, told in printed notes.
+mod heating;
 mod setpoints;
 
 use grammar::Text;

@@ -13,6 +13,7 @@ use crate::modules::PowerModule;
 use crate::modules::Refused;
 use crate::ratings::standard_high;
 use crate::ratings::standard_low;
+use crate::setting::Setting;
 use grammar::Quantity;
 
 // The line that is up while the magnet is too hot, and the temperature above which it is.
@@ -26,9 +27,7 @@ impl Magnet {
         ensures value { λ r. ⌜ magnetMeaning r ≡ magnetStart ⌝ }
     {
         Magnet {
-            on: false,
-            chosen: Loop::I,
-            demand: Quantity::clamped(0),
+            setting: Setting::new(),
             current: Quantity::clamped(0),
         }
     }
@@ -49,12 +48,13 @@ impl Magnet {
         ensures low_bound { λ r. ⌜ negsuc 19999999 ≤ℤ r ⌝ }
         ensures high_bound { λ r. ⌜ r ≤ℤ pos 20000000 ⌝ }
     {
-        if !self.on {
+        if !self.setting.is_on() {
             return 0;
         }
-        match self.chosen {
-            Loop::I => self.demand.millionths(),
-            Loop::V => self.demand.millionths() / 2,
+        let demand = self.setting.demand().millionths();
+        match self.setting.present_loop() {
+            Loop::I => demand,
+            Loop::V => demand / 2,
         }
     }
 
@@ -97,34 +97,19 @@ pub impl PowerModule for Magnet as MagnetModule {
     }
 
     fn switch_on(&mut self) {
-        self.on = true;
+        self.setting.switch_on();
     }
 
     fn switch_off(&mut self) {
-        self.on = false;
-        self.demand = Quantity::clamped(0);
+        self.setting.switch_off();
     }
 
     fn choose_loop(&mut self, choice: Loop) -> Result<(), Refused> {
-        if self.on {
-            return Err(Refused);
-        }
-        self.chosen = choice;
-        Ok(())
+        self.setting.choose_loop(choice)
     }
 
     fn apply(&mut self, demand: Quantity) -> Result<(), Refused> {
-        if !self.on {
-            return Err(Refused);
-        }
-        if demand.millionths() < standard_low(self.chosen).millionths() {
-            return Err(Refused);
-        }
-        if demand.millionths() > standard_high(self.chosen).millionths() {
-            return Err(Refused);
-        }
-        self.demand = demand;
-        Ok(())
+        self.setting.apply(demand)
     }
 
     fn advance(&mut self)
@@ -136,15 +121,15 @@ pub impl PowerModule for Magnet as MagnetModule {
     }
 
     fn is_on(&self) -> bool {
-        self.on
+        self.setting.is_on()
     }
 
     fn present_loop(&self) -> Loop {
-        self.chosen
+        self.setting.present_loop()
     }
 
     fn demand(&self) -> Quantity {
-        self.demand
+        self.setting.demand()
     }
 
     fn live_lines(&self) -> u32 {

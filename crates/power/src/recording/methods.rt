@@ -14,6 +14,7 @@ use crate::modules::PowerModule;
 use crate::modules::Refused;
 use crate::ratings::standard_high;
 use crate::ratings::standard_low;
+use crate::setting::Setting;
 use grammar::Quantity;
 
 // Bits 17, 18 and 20 to 25.
@@ -60,9 +61,7 @@ impl Recording {
         ensures first { λ r. ⌜ placeOf r ≡ 0 ⌝ }
     {
         Recording {
-            on: false,
-            chosen: Loop::I,
-            demand: Quantity::clamped(0),
+            setting: Setting::new(),
             records,
             place: 0,
         }
@@ -107,34 +106,19 @@ pub impl PowerModule for Recording as RecordingModule {
     }
 
     fn switch_on(&mut self) {
-        self.on = true;
+        self.setting.switch_on();
     }
 
     fn switch_off(&mut self) {
-        self.on = false;
-        self.demand = Quantity::clamped(0);
+        self.setting.switch_off();
     }
 
     fn choose_loop(&mut self, choice: Loop) -> Result<(), Refused> {
-        if self.on {
-            return Err(Refused);
-        }
-        self.chosen = choice;
-        Ok(())
+        self.setting.choose_loop(choice)
     }
 
     fn apply(&mut self, demand: Quantity) -> Result<(), Refused> {
-        if !self.on {
-            return Err(Refused);
-        }
-        if demand.millionths() < standard_low(self.chosen).millionths() {
-            return Err(Refused);
-        }
-        if demand.millionths() > standard_high(self.chosen).millionths() {
-            return Err(Refused);
-        }
-        self.demand = demand;
-        Ok(())
+        self.setting.apply(demand)
     }
 
     // The next record, or the last one again.
@@ -149,15 +133,15 @@ pub impl PowerModule for Recording as RecordingModule {
     }
 
     fn is_on(&self) -> bool {
-        self.on
+        self.setting.is_on()
     }
 
     fn present_loop(&self) -> Loop {
-        self.chosen
+        self.setting.present_loop()
     }
 
     fn demand(&self) -> Quantity {
-        self.demand
+        self.setting.demand()
     }
 
     fn live_lines(&self) -> u32 {

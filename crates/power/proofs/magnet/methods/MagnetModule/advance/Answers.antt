@@ -4,4 +4,4 @@ use Rattle.std.proofs.shelf.Signed.{toZ-ofZ, ints}
 use Rattle.power.proofs.magnet.methods.MagnetModule.advance.Needs as need
 
 pub ghost-self : need.ghost-self
-ghost-self c = (c .args .self .now .idle, (c .args .self .now .above, (c .args .self .now .below, (grind (arith, toZ-ofZ, ints), (grind (arith, toZ-ofZ, ints), tt)))))
+ghost-self c = (grind (arith, toZ-ofZ, ints), (grind (arith, toZ-ofZ, ints), tt))

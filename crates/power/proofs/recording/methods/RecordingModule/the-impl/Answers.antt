@@ -1,6 +1,7 @@
 use mathlib.Core.Path.{refl}
 use mathlib.Core.List.{_∷_}
 use borrow.Author.Needs.{needs}
+use Prim.Native.Nat.{ℕ}
 use lib.IntN.{pos}
 use lib.ListN.{getD}
 use Rattle.power.specs.Recordings.{readingsOf, blank, recordsOf}
@@ -12,9 +13,9 @@ pub lawful-law : need.lawful-law
 unfolding readingsOf
 lawful-law m =
     let r : Record = getD (blank ∷ recordsOf m) (m .place) blank in
-    let t = λ k. clamp-ranged (getD (r .temperatures) k (pos 0)) in
+    let t = λ (k : ℕ). clamp-ranged (getD (r .temperatures) k (pos 0)) in
     record {
-      demand = (m .demand .low, m .demand .high);
+      demand = (m .setting .demand .low, m .setting .demand .high);
       lines = masked (r .lines);
       current = clamp-ranged (r .current);
       voltage = clamp-ranged (r .voltage);
