@@ -8,7 +8,9 @@ use mathlib.Core.Bool.{true, false}
 use mathlib.Core.Logic.{⊎-elim}
 use Rattle.std.proofs.shelf.Tests.{cases-bool}
 use Rattle.std.proofs.shelf.Signed.{ints}
-use Rattle.power.specs.Magnets.{moved, movedBy, distance, Between, Approaches}
+use native.Mathlib.Numerals.{add-one}
+use Rattle.power.specs.Meaning.{Meaning, advanced}
+use Rattle.power.specs.Magnets.{goal, readingsAt, moved, movedBy, distance, Between, Approaches}
 
 -- a sixteenth lies between zero and the whole
 quot-up : (d : ℤ) → pos 0 ≤ℤ d → (pos 0 ≤ℤ quotZ d (pos 16)) × (quotZ d (pos 16) ≤ℤ d)
@@ -55,3 +57,9 @@ nearer g x =
 
 pub approaches : (g c : ℤ) → Approaches g c
 approaches g c = record { between = between g c; nearer = λ k. nearer g (movedBy k g c) }
+
+-- one advance more
+pub run-more : (m x y : Meaning) (k : ℕ) (c : ℤ) → x ≡ advanced m (readingsAt (movedBy k (goal m) (m .readings .current))) → y ≡ advanced x (readingsAt c) → c ≡ moved (goal x) (x .readings .current)
+    → y ≡ advanced m (readingsAt (movedBy (k + 1) (goal m) (m .readings .current)))
+run-more m x y k c e f h =
+    rw add-one (f ∙ ap (λ (z : Meaning). advanced z (readingsAt c)) e ∙ ap (λ (z : ℤ). advanced m (readingsAt z)) (h ∙ (λ t. moved (goal (e t)) (e t .readings .current))))

@@ -2,8 +2,16 @@
 mod heating;
 mod setpoints;
 
+use grammar::Quantity;
 use grammar::Text;
+use grammar::print_number;
 use grammar::read_number;
+use heating::run_to_trip;
+use power::Loop;
+use power::Magnet;
+use power::MagnetModule;
+use power::PowerModule;
+use power::start;
 use setpoints::Fault;
 use setpoints::Verdict;
 use setpoints::assess;
@@ -25,8 +33,15 @@ const TYPED: [&str; 12] = [
     "",
 ];
 
+// The demand of the magnet that is heated, and the longest time that it is given.
+const FULL_CURRENT: i64 = 20_000_000;
+
+const LONGEST: u32 = 1_000;
+
 fn main(rt: LibcRuntime) -> io::Result<()> {
-    review_setpoints(&rt)
+    review_setpoints(&rt)?;
+    println!(rt, "")?;
+    heat_magnet(&rt)
 }
 
 // The lab's list, one line for each setpoint.
@@ -109,4 +124,65 @@ fn explain(fault: Fault) -> &'static str {
         Fault::Decimal => "a seventh digit stands after the point, where six are the most",
         Fault::OtherByte => "a number goes on here with a digit, or with a point after a digit",
     }
+}
+
+// A magnet at full current, until its supply trips.
+fn heat_magnet(rt: &LibcRuntime) -> io::Result<()> {
+    println!(rt, "2. A magnet that is heated until it trips")?;
+    println!(rt, "")?;
+    println!(
+        rt,
+        "The magnet model is switched on in loop I (constant current) and told 20 A. In each"
+    )?;
+    println!(
+        rt,
+        "millisecond its current goes a sixteenth of the way that is left. Its one sensor reads"
+    )?;
+    println!(
+        rt,
+        "25 degrees and 3 more for each ampere, and above 80 degrees its trip line 20 goes up."
+    )?;
+    println!(rt, "")?;
+    let mut magnet = Magnet::new();
+    if start(&mut magnet, Loop::I, Quantity::clamped(FULL_CURRENT)).is_err() {
+        return println!(rt, "  The magnet refused the demand.");
+    }
+    let mut elapsed: u32 = 0;
+    for steps in [1, 1, 1, 7, 28] {
+        magnet.advance_by(steps);
+        elapsed = elapsed.saturating_add(steps);
+        show_magnet(rt, elapsed, &magnet)?;
+    }
+    match run_to_trip(&mut magnet, LONGEST) {
+        Some(more) => {
+            show_magnet(rt, elapsed.saturating_add(more), &magnet)?;
+            println!(
+                rt,
+                "  Line 20 is up, since the sensor reads above 80 degrees: the supply trips here."
+            )?;
+        }
+        None => println!(rt, "  No line came up within {LONGEST} ms more.")?,
+    }
+    println!(rt, "")?;
+    println!(
+        rt,
+        "That the current never passes its goal, and never moves away from it, is proved for"
+    )?;
+    println!(rt, "every goal and any number of milliseconds.")
+}
+
+fn show_magnet(rt: &LibcRuntime, elapsed: u32, magnet: &Magnet) -> io::Result<()> {
+    let current = print_number(magnet.current());
+    let temperature = print_number(magnet.temperature(1));
+    let line = if magnet.live_lines() == 0 {
+        "down"
+    } else {
+        "up"
+    };
+    let amperes = text_of(&current);
+    let degrees = text_of(&temperature);
+    println!(
+        rt,
+        "  after {elapsed} ms: {amperes} A, {degrees} degrees, line 20 is {line}"
+    )
 }
