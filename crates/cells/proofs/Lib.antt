@@ -1,0 +1,5 @@
+pub mod Listed
+pub mod Kept
+pub mod Sorts
+pub mod Access
+pub mod ByKind

@@ -1,0 +1,115 @@
+// Reading and writing the cells of an array.
+ghost use mathlib.Core.Path.{_≡_};
+ghost use mathlib.Core.Bool.{Bool, true, false, _&&_};
+ghost use mathlib.Core.List.{List};
+ghost use Prim.Native.Nat.{ℕ, _≤_, _<_};
+ghost use lib.ListN.{length, replicate, getD, set};
+ghost use Rattle.std.specs.Options.{Cases as BySome};
+ghost use Rattle.grammar.specs.Texts.{bytesOf};
+ghost use Rattle.cells.specs.Contents.{at, put, takes, numberIn, maskIn, textIn};
+ghost use Rattle.cells.specs.Directory.{kinds, place};
+ghost use Rattle.cells.specs.Kinded.{fits, valuesIn};
+ghost use Rattle.cells.specs.Values.{Value, absent, number, mask, spoken, storedOf};
+ghost use Rattle.cells.specs.declared.roles.Kind.the-variants.{Number, Mask, Text as Words};
+use super::CellArray;
+use crate::directory::all_roles;
+use crate::directory::place_of;
+use crate::roles::Kind;
+use crate::roles::KindPartialEq;
+use crate::stored::Stored;
+use grammar::Text;
+
+impl CellArray {
+    // Every value absent.
+    pub fn absent() -> CellArray
+        ensures value { λ r. ⌜ valuesIn (r .slots) ≡ replicate 39 absent ⌝ }
+    {
+        CellArray {
+            slots: [Stored::Absent; 39],
+        }
+    }
+
+    // What a cell holds; absent for what is no cell.
+    pub fn stored(&self, cell: u32) -> Stored
+        ensures value { λ r. ⌜ storedOf r ≡ at (valuesIn (now (self .entry) .slots)) cell ⌝ }
+    {
+        match place_of(cell) {
+            Some(i) => {
+                let slot = &self.slots[i];
+                *slot
+            }
+            None => Stored::Absent,
+        }
+    }
+
+    pub fn number(&self, cell: u32) -> Option<i64>
+        ensures value { λ r. ⌜ r ≡ numberIn (at (valuesIn (now (self .entry) .slots)) cell) ⌝ }
+    {
+        match self.stored(cell) {
+            Stored::Number(value) => Some(value),
+            _ => None,
+        }
+    }
+
+    pub fn mask(&self, cell: u32) -> Option<u32>
+        ensures value { λ r. ⌜ r ≡ maskIn (at (valuesIn (now (self .entry) .slots)) cell) ⌝ }
+    {
+        match self.stored(cell) {
+            Stored::Mask(value) => Some(value),
+            _ => None,
+        }
+    }
+
+    pub fn text(&self, cell: u32) -> Text
+        ensures value { λ r. ⌜ bytesOf r ≡ textIn (at (valuesIn (now (self .entry) .slots)) cell) ⌝ }
+    {
+        match self.stored(cell) {
+            Stored::Text(value) => value,
+            _ => Text::absent(),
+        }
+    }
+
+    pub fn set_number(&mut self, cell: u32, value: i64)
+        ensures after { λ _. ⌜ valuesIn (now (self .exit) .slots) ≡ put Number (valuesIn (now (self .entry) .slots)) cell (number value) ⌝ }
+    {
+        self.store(Kind::Number, cell, Stored::Number(value));
+    }
+
+    pub fn set_mask(&mut self, cell: u32, value: u32)
+        ensures after { λ _. ⌜ valuesIn (now (self .exit) .slots) ≡ put Mask (valuesIn (now (self .entry) .slots)) cell (mask value) ⌝ }
+    {
+        self.store(Kind::Mask, cell, Stored::Mask(value));
+    }
+
+    pub fn set_text(&mut self, cell: u32, value: Text)
+        ensures after { λ _. ⌜ valuesIn (now (self .exit) .slots) ≡ put Words (valuesIn (now (self .entry) .slots)) cell (spoken (bytesOf value)) ⌝ }
+    {
+        self.store(Kind::Text, cell, Stored::Text(value));
+    }
+
+    // Puts a value of this kind into a cell; into no cell, or one of another kind, it does nothing.
+    fn store(&mut self, kind: Kind, cell: u32, value: Stored)
+        requires { ⌜ fits kind (storedOf value) ≡ true ⌝ }
+        ensures after { λ _. ⌜ valuesIn (now (self .exit) .slots) ≡ put kind (valuesIn (now (self .entry) .slots)) cell (storedOf value) ⌝ }
+    {
+        if let Some(i) = place_of_kind(cell, kind) {
+            self.slots[i] = value;
+        }
+    }
+}
+
+// Where a cell stands, if it is of this kind.
+fn place_of_kind(cell: u32, kind: Kind) -> Option<usize>
+    ensures cases { λ r. ⌜ BySome r (takes kind cell ≡ false) (λ p. (takes kind cell ≡ true) × (p ≡ place cell) × (p < 39)) ⌝ }
+{
+    let at = place_of(cell)?;
+    if kind_at(at) == kind { Some(at) } else { None }
+}
+
+// The kind of the cell at a place.
+fn kind_at(at: usize) -> Kind
+    requires { ⌜ at < 39 ⌝ }
+    ensures value { λ r. ⌜ r ≡ getD kinds at Number ⌝ }
+{
+    all_roles()[at].kind()
+}
