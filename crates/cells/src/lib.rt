@@ -23,6 +23,7 @@ pub use roles::Role;
 pub use roles::Writer;
 pub use stored::CellValue;
 pub use stored::Stored;
+pub use stored::Unfit;
 pub use stores::CellStore;
 pub use stores::Unable;
 pub use table::TableCells;

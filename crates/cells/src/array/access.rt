@@ -1,6 +1,8 @@
 // Reading and writing the cells of an array.
 ghost use mathlib.Core.Path.{_≡_};
-ghost use mathlib.Core.Bool.{Bool, true, false, _&&_};
+ghost use mathlib.Core.Bool.{Bool, true, false, _&&_, cond};
+ghost use lib.Dec.{ltb};
+ghost use Rattle.std.specs.Results.{isOk};
 ghost use mathlib.Core.List.{List};
 ghost use Prim.Native.Nat.{ℕ, _≤_, _<_};
 ghost use lib.ListN.{length, replicate, getD, set};
@@ -12,11 +14,13 @@ ghost use Rattle.cells.specs.Kinded.{fits, valuesIn};
 ghost use Rattle.cells.specs.Values.{Value, absent, number, mask, spoken, storedOf};
 ghost use Rattle.cells.specs.declared.roles.Kind.the-variants.{Number, Mask, Text as Words};
 use super::CellArray;
+use crate::directory::CELL_COUNT;
 use crate::directory::all_roles;
 use crate::directory::place_of;
 use crate::roles::Kind;
 use crate::roles::KindPartialEq;
 use crate::stored::Stored;
+use crate::stored::Unfit;
 use grammar::Text;
 
 impl CellArray {
@@ -40,6 +44,29 @@ impl CellArray {
             }
             None => Stored::Absent,
         }
+    }
+
+    // The stored values in the order of the directory.
+    pub fn as_slice(&self) -> &[Stored]
+        ensures value { λ r. ⌜ now r ≡ now (self .entry) .slots ⌝ }
+    {
+        &self.slots
+    }
+
+    // Puts a value at a place of the directory. Refused exactly where there is no such place, or the value is of
+    // another kind than the cell there; nothing has then changed.
+    pub fn fill(&mut self, at: usize, value: Stored) -> Result<(), Unfit>
+        ensures cases { λ r. ⌜ isOk r ≡ (ltb at 39 && fits (getD kinds at Number) (storedOf value)) ⌝ }
+        ensures after { λ r. ⌜ valuesIn (now (self .exit) .slots) ≡ cond (isOk r) (set (valuesIn (now (self .entry) .slots)) at (storedOf value)) (valuesIn (now (self .entry) .slots)) ⌝ }
+    {
+        if at >= CELL_COUNT {
+            return Err(Unfit);
+        }
+        if !fits(kind_at(at), value) {
+            return Err(Unfit);
+        }
+        self.slots[at] = value;
+        Ok(())
     }
 
     pub fn number(&self, cell: u32) -> Option<i64>
@@ -112,4 +139,47 @@ fn kind_at(at: usize) -> Kind
     ensures value { λ r. ⌜ r ≡ getD kinds at Number ⌝ }
 {
     all_roles()[at].kind()
+}
+
+// Whether a cell of this kind can hold the value.
+fn fits(kind: Kind, value: Stored) -> bool
+    ensures value { λ r. ⌜ r ≡ fits kind (storedOf value) ⌝ }
+{
+    match value {
+        Stored::Absent => true,
+        Stored::Number(v) => fits_number(kind, v),
+        Stored::Mask(m) => fits_mask(kind, m),
+        Stored::Text(t) => fits_text(kind, t),
+    }
+}
+
+fn fits_number(kind: Kind, v: i64) -> bool
+    ensures value { λ r. ⌜ r ≡ fits kind (number v) ⌝ }
+{
+    match kind {
+        Kind::Number => true,
+        _ => false,
+    }
+}
+
+fn fits_mask(kind: Kind, m: u32) -> bool
+    ensures value { λ r. ⌜ r ≡ fits kind (mask m) ⌝ }
+{
+    match kind {
+        Kind::Mask => true,
+        _ => false,
+    }
+}
+
+// A text of no bytes is absent, and fits everywhere.
+fn fits_text(kind: Kind, t: Text) -> bool
+    ensures value { λ r. ⌜ r ≡ fits kind (spoken (bytesOf t)) ⌝ }
+{
+    if t.is_absent() {
+        return true;
+    }
+    match kind {
+        Kind::Text => true,
+        _ => false,
+    }
 }

@@ -1,0 +1,28 @@
+use mathlib.Core.Path.{_≡_, sym, ap, _∙_}
+use mathlib.Core.Bool.{Bool, true}
+use Prim.Native.Nat.{_<_}
+use native.Mathlib.Omega.{arith}
+use lib.Dec.{ltb}
+use lib.ListN.{getD}
+use Rattle.std.proofs.shelf.Lists.{map-set}
+use Rattle.std.proofs.shelf.Tests.{and-from, lt-ltb}
+use Rattle.cells.specs.Directory.{kinds}
+use Rattle.cells.specs.Kinded.{fits}
+use Rattle.cells.specs.Values.{storedOf}
+use Rattle.cells.specs.declared.roles.Kind.{Kind}
+use Rattle.cells.specs.declared.roles.Kind.the-variants.{Number}
+use Rattle.cells.proofs.Sorts.{kinded-fill}
+use Rattle.cells.proofs.array.CellArray.fill.Needs as need
+
+pub ghost-self : need.ghost-self
+ghost-self c =
+    let fit = ap (λ (k : Kind). fits k (storedOf (c .args .value))) (sym (c .kind-at .ensures .value)) ∙ sym (c .if-not-fits .ensures tt .value) in
+    (kinded-fill (c .args .self .now .slots) (c .args .at) (c .args .value) (c .args .self .now .kinded) (c .if-at-ge-CELL-COUNT .left) fit, tt)
+
+pub returns : need.returns
+returns c =
+    let fit = ap (λ (k : Kind). fits k (storedOf (c .args .value))) (sym (c .kind-at .ensures .value)) ∙ sym (c .if-not-fits .ensures tt .value) in
+    record {
+      cases = sym (and-from _ _ (lt-ltb (c .args .at) 39 (c .if-at-ge-CELL-COUNT .left)) fit);
+      after = map-set storedOf (c .args .self .now .slots) (c .args .at) (c .args .value);
+    }

@@ -1,0 +1,2 @@
+// A store of cells over the bytes of an image.
+pub mod sink;
