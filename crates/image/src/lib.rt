@@ -1,2 +1,3 @@
 // A store of cells over the bytes of an image.
 pub mod sink;
+mod write;
