@@ -1,8 +1,11 @@
 // The directory: which cells there are, in rising order.
 ghost use mathlib.Core.Path.{_≡_};
-ghost use Prim.Native.Nat.{ℕ, _<_};
+ghost use Prim.Native.Nat.{ℕ, _≤_, _<_};
+ghost use lib.ListN.{getD};
 ghost use Rattle.std.specs.Options.{Cases as BySome};
-ghost use Rattle.cells.specs.Directory.{place, roles, roleOf};
+ghost use Rattle.cells.specs.Directory.{place, roles, roleOf, kinds};
+ghost use Rattle.cells.specs.declared.roles.Kind.the-variants.{Number};
+use crate::roles::Kind;
 use crate::roles::Role;
 
 // How many cells there are.
@@ -79,4 +82,14 @@ pub fn role_of(cell: u32) -> Option<Role>
         Some(at) => Some(all_roles()[at]),
         None => None,
     }
+}
+
+// The kind of the cell at a place of the directory; none past its end.
+pub fn kind_at(at: usize) -> Option<Kind>
+    ensures cases { λ r. ⌜ BySome r (39 ≤ at) (λ k. (at < 39) × (k ≡ getD kinds at Number)) ⌝ }
+{
+    if at >= CELL_COUNT {
+        return None;
+    }
+    Some(all_roles()[at].kind())
 }

@@ -12,6 +12,7 @@ pub mod values;
 pub use array::CellArray;
 pub use directory::CELL_COUNT;
 pub use directory::all_roles;
+pub use directory::kind_at;
 pub use directory::place_of;
 pub use directory::role_of;
 pub use ratings::Ratings;

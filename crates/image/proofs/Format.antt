@@ -64,7 +64,7 @@ pub parse-step : (k : Kind) (ks : List Kind) (at : ℕ) (ps cs : List ℕ) (n : 
 parse-step k ks at ps cs n v o a e s l hv ho =
     cond-true (lawful k at ps cs) _ _
     (and-from (eqb (from16 ps 0) at) _ (eq-eqb (from16 ps 0) at a)
-      (and-from (sized k (from16 ps 2)) (leb (from16 ps 2) (length cs)) (ap (sized k) e ∙ s) (le-leb (from16 ps 2) (length cs) (omega (arith, e)))))
+    (and-from (sized k (from16 ps 2)) (leb (from16 ps 2) (length cs)) (ap (sized k) e ∙ s) (le-leb (from16 ps 2) (length cs) (omega (arith, e)))))
     ∙ ap (λ (m : ℕ). after (valueIn k (take m cs)) (parse ks (at + m) (drop 4 ps) (drop m cs))) e
     ∙ ap (λ (x : Value). after x (parse ks (at + n) (drop 4 ps) (drop n cs))) hv
     ∙ ap (after v) ho
@@ -85,13 +85,13 @@ parse-written (k ∷ ks) (v ∷ vs) at ps cs e l =
     let back : (content v ++ contents vs) ++ cs ≡ content v ++ r = append-assoc (content v) (contents vs) cs in
     ap (parse (k ∷ ks) at (directory at (v ∷ vs) ++ ps)) back
     ∙ parse-step k ks at (directory at (v ∷ vs) ++ ps) (content v ++ r) n v (Some vs)
-      (from16-be16 at [] (omega arith))
-      (from16-be16 n [] (omega arith))
-      (sized-content k v (w .0))
-      (omega (arith, length-append (content v) r))
-      (ap (valueIn k) (take-at (content v) r n refl) ∙ value-content k v (w .0))
-      (ap (parse ks (at + n) (directory (at + n) vs ++ ps)) (drop-at (content v) r n refl)
-        ∙ parse-written ks vs (at + n) ps cs (w .1) (omega arith))
+    (from16-be16 at [] (omega arith))
+    (from16-be16 n [] (omega arith))
+    (sized-content k v (w .0))
+    (omega (arith, length-append (content v) r))
+    (ap (valueIn k) (take-at (content v) r n refl) ∙ value-content k v (w .0))
+    (ap (parse ks (at + n) (directory (at + n) vs ++ ps)) (drop-at (content v) r n refl)
+    ∙ parse-written ks vs (at + n) ps cs (w .1) (omega arith))
 
 pub directory-length : (at : ℕ) (vs : List Value) → length (directory at vs) ≡ 4 * length vs
 directory-length at [] = refl

@@ -61,13 +61,15 @@ back-mask a b c d la lb lc ld =
 
 pub back : (k : Kind) (t : List ℕ) → Bytes t → sized k (length t) ≡ true → Back k t
 back Number t p e =
-    elim (or-cases (eqb (length t) 0) (eqb (length t) 8) e)
-    [ inl z ↦ subst (Back Number) (sym (nil-from-length t (eqb-true _ _ z))) (refl, refl)
-    | inr z ↦ subst (Back Number) (sym (eight t (eqb-true _ _ z))) (back-number _ _ _ _ _ _ _ _ (p 0) (p 1) (p 2) (p 3) (p 4) (p 5) (p 6) (p 7)) ]
+    elim (or-cases (eqb (length t) 0) (eqb (length t) 8) e) [
+      | inl z ↦ subst (Back Number) (sym (nil-from-length t (eqb-true _ _ z))) (refl, refl)
+      | inr z ↦ subst (Back Number) (sym (eight t (eqb-true _ _ z))) (back-number _ _ _ _ _ _ _ _ (p 0) (p 1) (p 2) (p 3) (p 4) (p 5) (p 6) (p 7))
+    ]
 back Mask t p e =
-    elim (or-cases (eqb (length t) 0) (eqb (length t) 4) e)
-    [ inl z ↦ subst (Back Mask) (sym (nil-from-length t (eqb-true _ _ z))) (refl, refl)
-    | inr z ↦ subst (Back Mask) (sym (four t (eqb-true _ _ z))) (back-mask _ _ _ _ (p 0) (p 1) (p 2) (p 3)) ]
+    elim (or-cases (eqb (length t) 0) (eqb (length t) 4) e) [
+      | inl z ↦ subst (Back Mask) (sym (nil-from-length t (eqb-true _ _ z))) (refl, refl)
+      | inr z ↦ subst (Back Mask) (sym (four t (eqb-true _ _ z))) (back-mask _ _ _ _ (p 0) (p 1) (p 2) (p 3))
+    ]
 back Text [] p e = (refl, refl)
 back Text (b ∷ bs) p e =
     let v : valueIn Text (b ∷ bs) ≡ text (b ∷ bs) = cond-false (eqb (length (b ∷ bs)) 0) absent (text (b ∷ bs)) (ne-eqb (length (b ∷ bs)) 0 (λ q. omega arith)) in
@@ -103,17 +105,17 @@ module _ (k : Kind) (ks : List Kind) (at : ℕ) (a b c d : ℕ) (ps cs : List �
       record {
         kind = and-from (fits k v) (kinded ks ws) (f .1) (r .kind);
         pairs =
-          ap (λ (x : List ℕ). a ∷ b ∷ c ∷ d ∷ x) (r .pairs)
-          ∙ ap (λ (x : List ℕ). x ++ (c ∷ d ∷ (directory (at + n) ws ++ drop (4 * length ks) ps))) e1
-          ∙ ap (λ (x : List ℕ). be16 at ++ (x ++ (directory (at + n) ws ++ drop (4 * length ks) ps))) e2
-          ∙ ap (λ (j : ℕ). be16 at ++ (be16 (length (content v)) ++ (directory (at + j) ws ++ drop (4 * length ks) ps))) (sym cn)
-          ∙ ap (λ (j : ℕ). directory at (v ∷ ws) ++ drop j (a ∷ b ∷ c ∷ d ∷ ps)) (sym m);
+            ap (λ (x : List ℕ). a ∷ b ∷ c ∷ d ∷ x) (r .pairs)
+            ∙ ap (λ (x : List ℕ). x ++ (c ∷ d ∷ (directory (at + n) ws ++ drop (4 * length ks) ps))) e1
+            ∙ ap (λ (x : List ℕ). be16 at ++ (x ++ (directory (at + n) ws ++ drop (4 * length ks) ps))) e2
+            ∙ ap (λ (j : ℕ). be16 at ++ (be16 (length (content v)) ++ (directory (at + j) ws ++ drop (4 * length ks) ps))) (sym cn)
+            ∙ ap (λ (j : ℕ). directory at (v ∷ ws) ++ drop j (a ∷ b ∷ c ∷ d ∷ ps)) (sym m);
         rest = r .rest;
         body =
-          sym (take-append-drop n cs)
-          ∙ ap (λ (x : List ℕ). x ++ drop n cs) (sym (f .0))
-          ∙ ap (λ (x : List ℕ). content v ++ x) (r .body)
-          ∙ sym (append-assoc (content v) (contents ws) (r .rest))
+            sym (take-append-drop n cs)
+            ∙ ap (λ (x : List ℕ). x ++ drop n cs) (sym (f .0))
+            ∙ ap (λ (x : List ℕ). content v ++ x) (r .body)
+            ∙ sym (append-assoc (content v) (contents ws) (r .rest));
       }
 
 pub parse-sound : (ks : List Kind) (at : ℕ) (ps cs : List ℕ) → Bytes ps → Bytes cs → 4 * length ks ≤ length ps → Told ks at ps cs (parse ks at ps cs)
@@ -126,5 +128,5 @@ parse-sound (k ∷ ks) at (a ∷ b ∷ c ∷ d ∷ ps) cs pp pc l =
     let n : ℕ = c * 256 + d in
     cond-both (lawful k at (a ∷ b ∷ c ∷ d ∷ ps) cs) (after (valueIn k (take n cs)) (parse ks (at + n) ps (drop n cs))) None (Told (k ∷ ks) at (a ∷ b ∷ c ∷ d ∷ ps) cs)
     (λ ok. told-step k ks at a b c d ps cs (pp 0) (pp 1) (pp 2) (pp 3) pc ok (parse ks (at + n) ps (drop n cs))
-      (parse-sound ks (at + n) ps (drop n cs) (λ i. pp (suc (suc (suc (suc i))))) (λ i. subst (λ (x : ℕ). x < 256) (sym (getD-drop n cs i 0)) (pc (n + i))) (omega arith)))
+    (parse-sound ks (at + n) ps (drop n cs) (λ i. pp (suc (suc (suc (suc i))))) (λ i. subst (λ (x : ℕ). x < 256) (sym (getD-drop n cs i 0)) (pc (n + i))) (omega arith)))
     (λ _. tt)

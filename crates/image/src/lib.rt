@@ -1,3 +1,8 @@
 // A store of cells over the bytes of an image.
+mod read;
 pub mod sink;
+pub mod store;
 mod write;
+
+pub use store::ImageCells;
+pub use store::ImageStore;

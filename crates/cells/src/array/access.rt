@@ -14,8 +14,7 @@ ghost use Rattle.cells.specs.Kinded.{fits, valuesIn};
 ghost use Rattle.cells.specs.Values.{Value, absent, number, mask, spoken, storedOf};
 ghost use Rattle.cells.specs.declared.roles.Kind.the-variants.{Number, Mask, Text as Words};
 use super::CellArray;
-use crate::directory::CELL_COUNT;
-use crate::directory::all_roles;
+use crate::directory::kind_at;
 use crate::directory::place_of;
 use crate::roles::Kind;
 use crate::roles::KindPartialEq;
@@ -59,10 +58,10 @@ impl CellArray {
         ensures cases { λ r. ⌜ isOk r ≡ (ltb at 39 && fits (getD kinds at Number) (storedOf value)) ⌝ }
         ensures after { λ r. ⌜ valuesIn (now (self .exit) .slots) ≡ cond (isOk r) (set (valuesIn (now (self .entry) .slots)) at (storedOf value)) (valuesIn (now (self .entry) .slots)) ⌝ }
     {
-        if at >= CELL_COUNT {
+        let Some(kind) = kind_at(at) else {
             return Err(Unfit);
-        }
-        if !fits(kind_at(at), value) {
+        };
+        if !fits(kind, value) {
             return Err(Unfit);
         }
         self.slots[at] = value;
@@ -130,15 +129,8 @@ fn place_of_kind(cell: u32, kind: Kind) -> Option<usize>
     ensures cases { λ r. ⌜ BySome r (takes kind cell ≡ false) (λ p. (takes kind cell ≡ true) × (p ≡ place cell) × (p < 39)) ⌝ }
 {
     let at = place_of(cell)?;
-    if kind_at(at) == kind { Some(at) } else { None }
-}
-
-// The kind of the cell at a place.
-fn kind_at(at: usize) -> Kind
-    requires { ⌜ at < 39 ⌝ }
-    ensures value { λ r. ⌜ r ≡ getD kinds at Number ⌝ }
-{
-    all_roles()[at].kind()
+    let found = kind_at(at)?;
+    if found == kind { Some(at) } else { None }
 }
 
 // Whether a cell of this kind can hold the value.

@@ -14,5 +14,5 @@ returns-in-Text c =
     let e = c .as-bytes .ensures .value in
     record {
       value = ap length e ∙ sym (ap length (content-spoken (bytesOf t))) ∙ sym (ap (λ (s : Stored). length (content (storedOf s))) (c .in-Text .is));
-      bound = omega (arith, ap length e, length-take (t .len) (t .bytes), t .short)
+      bound = omega (arith, ap length e, length-take (t .len) (t .bytes), t .short);
     }

@@ -24,9 +24,10 @@ pub loop-i-again : need.loop-i-again
 loop-i-again g c =
     let xs = c .args .slots .now in
     let long = slots-39 xs (c .pre .kind) in
-    let l : c .loop-i .i < length xs = omega (arith, long, c .loop-i-test .taken) in
-    (contents-again xs (c .loop-i .i) (c .index-slots-i .result) l _ _ _ (c .write-stored .ensures .written ∙ ap (λ (s : Stored). g .S·Sink .written (c .loop-i .out) ++ content (storedOf s)) (c .index-slots-i .is)) (c .loop-i .inv .0),
-     c .write-stored .ensures .room ∙ c .loop-i .inv .1)
+    let l : c .loop-i .i < length xs = omega (arith, long, c .loop-i-test .taken) in (
+      contents-again xs (c .loop-i .i) (c .index-slots-i .result) l _ _ _ (c .write-stored .ensures .written ∙ ap (λ (s : Stored). g .S·Sink .written (c .loop-i .out) ++ content (storedOf s)) (c .index-slots-i .is)) (c .loop-i .inv .0),
+      c .write-stored .ensures .room ∙ c .loop-i .inv .1,
+    )
 
 pub returns : need.returns
 returns g c =
@@ -34,5 +35,5 @@ returns g c =
     let long = slots-39 xs (c .pre .kind) in
     record {
       written = c .loop-i .inv .0 ∙ ap (λ (x : List Value). g .S·Sink .written (c .args .out .now) ++ contents x) (all-values xs (c .loop-i .i) (omega (arith, long, c .loop-i-test .left)));
-      room = c .loop-i .inv .1
+      room = c .loop-i .inv .1;
     }

@@ -17,7 +17,7 @@ write-pairs-requires g c κs =
     record {
       kind = c .pre .kind;
       empty = c .pre .empty;
-      space = omega (arith, c .pre .space, encoded-length (valuesIn xs), length-map xs storedOf, slots-39 xs (c .pre .kind))
+      space = omega (arith, c .pre .space, encoded-length (valuesIn xs), length-map xs storedOf, slots-39 xs (c .pre .kind));
     }
 
 pub write-contents-requires : need.write-contents-requires
@@ -25,7 +25,7 @@ write-contents-requires g c κs =
     let xs = c .args .slots .now in
     record {
       kind = c .pre .kind;
-      space = omega (arith, c .pre .space, encoded-length (valuesIn xs), ap length (c .write-pairs .ensures .written), directory-length 156 (valuesIn xs), c .write-pairs .ensures .room)
+      space = omega (arith, c .pre .space, encoded-length (valuesIn xs), ap length (c .write-pairs .ensures .written), directory-length 156 (valuesIn xs), c .write-pairs .ensures .room);
     }
 
 pub returns : need.returns
@@ -34,5 +34,5 @@ returns g c =
     let n : 156 ≡ 4 * length (valuesIn xs) = omega (arith, length-map xs storedOf, slots-39 xs (c .pre .kind)) in
     record {
       written = c .write-contents .ensures .written ∙ ap (λ (x : List ℕ). x ++ contents (valuesIn xs)) (c .write-pairs .ensures .written) ∙ ap (λ (m : ℕ). directory m (valuesIn xs) ++ contents (valuesIn xs)) n;
-      room = c .write-contents .ensures .room ∙ c .write-pairs .ensures .room
+      room = c .write-contents .ensures .room ∙ c .write-pairs .ensures .room;
     }

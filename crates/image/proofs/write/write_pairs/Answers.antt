@@ -22,7 +22,7 @@ write-pair-requires g c κs =
     record {
       at = omega (arith, part, c .loop-i .inv .1);
       size = omega (arith, c .size-of-size .ensures .bound);
-      space = omega (arith, ap length (c .loop-i .inv .0), directory-length 156 (take (c .loop-i .i) (valuesIn xs)), length-take (c .loop-i .i) (valuesIn xs), c .loop-i .inv .2, c .pre .space, long, c .loop-i-test .taken)
+      space = omega (arith, ap length (c .loop-i .inv .0), directory-length 156 (take (c .loop-i .i) (valuesIn xs)), length-take (c .loop-i .i) (valuesIn xs), c .loop-i .inv .2, c .pre .space, long, c .loop-i-test .taken);
     }
 
 pub add-at : need.add-at
@@ -35,10 +35,11 @@ pub loop-i-again : need.loop-i-again
 loop-i-again g c =
     let xs = c .args .slots .now in
     let long = slots-39 xs (c .pre .kind) in
-    let l : c .loop-i .i < length xs = omega (arith, long, c .loop-i-test .taken) in
-    (pairs-again xs (c .loop-i .i) (c .index-slots-i .result) l 156 _ _ _ _ (c .write-pair .ensures .written) (c .loop-i .inv .0) (c .loop-i .inv .1) (c .size-of-size .ensures .value ∙ ap (λ (s : Stored). length (content (storedOf s))) (c .index-slots-i .is)),
-     omega (arith, length-more xs (c .loop-i .i) (c .index-slots-i .result) l, c .loop-i .inv .1, c .size-of-size .ensures .value, ap (λ (s : Stored). length (content (storedOf s))) (c .index-slots-i .is)),
-     c .write-pair .ensures .room ∙ c .loop-i .inv .2)
+    let l : c .loop-i .i < length xs = omega (arith, long, c .loop-i-test .taken) in (
+      pairs-again xs (c .loop-i .i) (c .index-slots-i .result) l 156 _ _ _ _ (c .write-pair .ensures .written) (c .loop-i .inv .0) (c .loop-i .inv .1) (c .size-of-size .ensures .value ∙ ap (λ (s : Stored). length (content (storedOf s))) (c .index-slots-i .is)),
+      omega (arith, length-more xs (c .loop-i .i) (c .index-slots-i .result) l, c .loop-i .inv .1, c .size-of-size .ensures .value, ap (λ (s : Stored). length (content (storedOf s))) (c .index-slots-i .is)),
+      c .write-pair .ensures .room ∙ c .loop-i .inv .2,
+    )
 
 pub returns : need.returns
 returns g c =
@@ -46,5 +47,5 @@ returns g c =
     let long = slots-39 xs (c .pre .kind) in
     record {
       written = c .loop-i .inv .0 ∙ ap (directory 156) (all-values xs (c .loop-i .i) (omega (arith, long, c .loop-i-test .left)));
-      room = c .loop-i .inv .2
+      room = c .loop-i .inv .2;
     }

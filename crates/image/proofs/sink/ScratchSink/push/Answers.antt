@@ -13,5 +13,5 @@ returns c =
     let e = c .copy-from-slice .ensures .after in
     record {
       written = take-putMid (c .args .self .now .len) _ (c .args .self .now .bytes) (c .copy-from-slice .last .self) _ (omega (arith, ap length e)) (omega (arith, full, c .args .self .now .within)) ∙ ap (λ x. take (c .args .self .now .len) (c .args .self .now .bytes) ++ x) e;
-      room = refl
+      room = refl;
     }
