@@ -1,8 +1,11 @@
 // A store of cells over the bytes of an image.
 mod read;
-pub mod sink;
+mod sink;
 pub mod store;
 mod write;
 
 pub use store::ImageCells;
 pub use store::ImageStore;
+
+#[cfg(test)]
+mod tests;
