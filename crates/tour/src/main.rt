@@ -1,12 +1,18 @@
 // A tour of what stands so far, told in printed notes.
 mod heating;
+mod keeping;
 mod setpoints;
 
+use cells::CellStore;
+use cells::place_of;
 use grammar::Quantity;
 use grammar::Text;
 use grammar::print_number;
 use grammar::read_number;
 use heating::run_to_trip;
+use image::ImageCells;
+use image::ImageStore;
+use keeping::keep_number;
 use power::Loop;
 use power::Magnet;
 use power::MagnetModule;
@@ -41,7 +47,9 @@ const LONGEST: u32 = 1_000;
 fn main(rt: LibcRuntime) -> io::Result<()> {
     review_setpoints(&rt)?;
     println!(rt, "")?;
-    heat_magnet(&rt)
+    heat_magnet(&rt)?;
+    println!(rt, "")?;
+    keep_cells(&rt)
 }
 
 // The lab's list, one line for each setpoint.
@@ -185,4 +193,83 @@ fn show_magnet(rt: &LibcRuntime, elapsed: u32, magnet: &Magnet) -> io::Result<()
         rt,
         "  after {elapsed} ms: {amperes} A, {degrees} degrees, line 20 is {line}"
     )
+}
+
+// Three cells, saved into the bytes of an image and read from them again.
+fn keep_cells(rt: &LibcRuntime) -> io::Result<()> {
+    println!(rt, "3. Parameter cells in an image of bytes")?;
+    println!(rt, "")?;
+    println!(
+        rt,
+        "A store over 200 bytes of zero has every cell absent. Cell 1, the identification, is"
+    )?;
+    println!(
+        rt,
+        "set to HALL-B-Q7, cell 11, the highest current, to 5 A, and cell 100, an operator's, to"
+    )?;
+    println!(
+        rt,
+        "two millionths below zero. Saving lays out 39 pairs of offset and length, one for each"
+    )?;
+    println!(
+        rt,
+        "cell, and then the contents, every number high byte first. The cells that are there:"
+    )?;
+    println!(rt, "")?;
+    let mut store = ImageStore::new(vec![in rt.alloc(); 0u8; 200]?);
+    if let Some(name) = Text::new(b"HALL-B-Q7") {
+        store.set_text(1, name);
+    }
+    store.set_number(11, 5_000_000);
+    if keep_number(&mut store, 100, -2).is_err() {
+        return println!(rt, "  The image does not fit its 200 bytes.");
+    }
+    for cell in 0..128u32 {
+        if let Some(place) = place_of(cell) {
+            show_pair(rt, cell, place, store.as_bytes())?;
+        }
+    }
+    let again = ImageStore::new(store.into_bytes());
+    println!(rt, "")?;
+    println!(rt, "A second store over the same bytes reads them back:")?;
+    let name = again.text(1);
+    let identification = text_of(&name);
+    let highest = again.number(11).unwrap_or(0);
+    let operator = again.number(100).unwrap_or(0);
+    println!(
+        rt,
+        "  cell 1 is {identification}, cell 11 is {highest} millionths, cell 100 is {operator}."
+    )?;
+    println!(rt, "")?;
+    println!(
+        rt,
+        "That whatever was saved is what a later store over the same bytes starts with is proved"
+    )?;
+    println!(rt, "for all values of all 39 cells.")
+}
+
+// One pair of the image, with the bytes that it points to; nothing for a cell that is absent.
+fn show_pair(rt: &LibcRuntime, cell: u32, place: usize, bytes: &[u8]) -> io::Result<()> {
+    let pair = place.saturating_mul(4);
+    let offset = number_at(bytes, pair);
+    let size = number_at(bytes, pair.saturating_add(2));
+    if size == 0 {
+        return Ok(());
+    }
+    print!(rt, "  cell {cell}: offset {offset}, length {size}, content")?;
+    for b in bytes.iter().skip(offset).take(size) {
+        print!(rt, " {b:02x}")?;
+    }
+    println!(rt, "")
+}
+
+// The number of two bytes, high byte first; a byte past the end counts 0.
+fn number_at(bytes: &[u8], i: usize) -> usize {
+    let high = byte_at(bytes, i) as usize;
+    let low = byte_at(bytes, i.saturating_add(1)) as usize;
+    high * 256 + low
+}
+
+fn byte_at(bytes: &[u8], i: usize) -> u8 {
+    bytes.get(i).copied().unwrap_or(0)
 }
