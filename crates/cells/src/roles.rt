@@ -1,6 +1,6 @@
 // What a cell is for, which kind of value it holds, and who may write it.
 ghost use mathlib.Core.Path.{_≡_};
-ghost use Rattle.cells.specs.Roles.{kindOf, writerOf};
+ghost use Rattle.cells.specs.Roles.{kindOf, writerOf, protected};
 
 // A cell is a stored parameter.
 #[derive(Clone, Copy, PartialEq, Eq, Debug)]
@@ -54,6 +54,18 @@ impl Role {
             Role::Model => Writer::Nobody,
             Role::RateI | Role::RateV | Role::Operator => Writer::User,
             _ => Writer::Admin,
+        }
+    }
+}
+
+impl Writer {
+    // A cell is protected if ADMIN or nobody writes it.
+    pub fn is_protected(self) -> bool
+        ensures value { λ r. ⌜ r ≡ protected self ⌝ }
+    {
+        match self {
+            Writer::Nobody | Writer::Admin => true,
+            Writer::User => false,
         }
     }
 }

@@ -6,8 +6,11 @@ ghost use Prim.Native.Nat.{ℕ, _≤_};
 ghost use lib.ListN.{length, drop};
 ghost use Rattle.std.specs.Of.Vec.{vec-items};
 ghost use Rattle.std.specs.Results.{isOk};
-ghost use Rattle.cells.specs.Contents.{Saved, Reloaded};
+ghost use Rattle.cells.specs.Contents.{Wrote, Saved, Reloaded};
 ghost use Rattle.cells.specs.Directory.{kinds};
+ghost use Rattle.cells.specs.Values.{number, mask, spoken};
+ghost use Rattle.cells.specs.declared.roles.Kind.the-variants.{Number, Mask, Text as Words};
+ghost use Rattle.grammar.specs.Texts.{bytesOf};
 ghost use Rattle.image.specs.Image.{encoded, decoded, Means};
 ghost use Rattle.image.specs.Stores.{workingOf, bytesIn, imageContents};
 use crate::read::read_cells;
@@ -76,15 +79,24 @@ pub impl CellStore for ImageStore as ImageCells {
         self.working.text(cell)
     }
 
-    fn set_number(&mut self, cell: u32, value: i64) {
+    fn set_number(&mut self, cell: u32, value: i64)
+        ensures after { λ _. ⌜ Wrote Number cell (number value) (imageContents (now (self .entry))) (imageContents (now (self .exit))) ⌝ }
+        ensures bytes { λ _. ⌜ bytesIn (now (self .exit)) ≡ bytesIn (now (self .entry)) ⌝ }
+    {
         self.working.set_number(cell, value);
     }
 
-    fn set_mask(&mut self, cell: u32, value: u32) {
+    fn set_mask(&mut self, cell: u32, value: u32)
+        ensures after { λ _. ⌜ Wrote Mask cell (mask value) (imageContents (now (self .entry))) (imageContents (now (self .exit))) ⌝ }
+        ensures bytes { λ _. ⌜ bytesIn (now (self .exit)) ≡ bytesIn (now (self .entry)) ⌝ }
+    {
         self.working.set_mask(cell, value);
     }
 
-    fn set_text(&mut self, cell: u32, value: Text) {
+    fn set_text(&mut self, cell: u32, value: Text)
+        ensures after { λ _. ⌜ Wrote Words cell (spoken (bytesOf value)) (imageContents (now (self .entry))) (imageContents (now (self .exit))) ⌝ }
+        ensures bytes { λ _. ⌜ bytesIn (now (self .exit)) ≡ bytesIn (now (self .entry)) ⌝ }
+    {
         self.working.set_text(cell, value);
     }
 
