@@ -1,12 +1,11 @@
 -- What a cell's value keeps. Assumes nothing.
-use mathlib.Core.Path.{_≡_, refl, sym, ap, _∙_}
-use mathlib.Core.Bool.{Bool, true, false, cond, _&&_}
-use mathlib.Core.Logic.{⊎-elim}
+use mathlib.Core.Path.{_≡_, refl, ap, _∙_}
+use mathlib.Core.Bool.{true, false}
 use native.Mathlib.Omega.{arith}
 use lib.IntN.{ℤ, pos}
 use lib.Signed.{_≤ℤ_, leZ}
 use Rattle.std.proofs.shelf.Signed.{ints}
-use Rattle.std.proofs.shelf.Tests.{cond-true, cond-false, and-from, cases-bool, both-ways}
+use Rattle.std.proofs.shelf.Tests.{cond-true, cond-false, and-from, both-ways}
 use Rattle.cells.specs.Values.{Value, spans, lawful, factory, cellValue, Fair, Valued}
 use Rattle.cells.specs.declared.ratings.Ratings.{Ratings}
 use Rattle.cells.specs.declared.roles.Role.{Role}

@@ -1,14 +1,13 @@
 -- Kinds beside values. Assumes nothing.
-use Prim.Native.Nat.{ℕ, zero, suc, _<_, _≤_, _+_}
+use Prim.Native.Nat.{ℕ, zero, suc, _<_, _≤_}
 use mathlib.Core.Bool.{Bool, true, false, cond, _&&_}
-use mathlib.Core.Logic.{inl, inr}
 use mathlib.Core.List.{List, [], _∷_}
-use mathlib.Core.Path.{_≡_, refl, sym, ap, subst, _∙_}
+use mathlib.Core.Path.{_≡_, refl, sym, ap, _∙_}
 use native.Mathlib.Omega.{arith}
 use lib.ListN.{length, getD, set}
 use lib.Dec.{ltb, leb}
-use Rattle.std.proofs.shelf.Tests.{and-parts, and-from, false≢true, ltb-true, leb-true, lt-ltb, le-leb, cases-bool}
-use Rattle.cells.specs.Values.{Value, absent, number, mask, text, spoken, storedOf}
+use Rattle.std.proofs.shelf.Tests.{and-parts, and-from, false≢true, ltb-true, lt-ltb, le-leb}
+use Rattle.cells.specs.Values.{Value, absent, spoken, storedOf}
 use Rattle.cells.specs.Kinded.{fits, kinded, valuesIn}
 use Rattle.cells.specs.Contents.{sameKind}
 use Rattle.cells.specs.Directory.{roles, kinds}
@@ -28,11 +27,6 @@ same-kind Text Number e = absurd (false≢true e)
 same-kind Text Mask e = absurd (false≢true e)
 same-kind Text Text e = refl
 
-pub same-kind-refl : (a : Kind) → sameKind a a ≡ true
-same-kind-refl Number = refl
-same-kind-refl Mask = refl
-same-kind-refl Text = refl
-
 pub kinded-length : (ks : List Kind) (vs : List Value) → kinded ks vs ≡ true → length vs ≡ length ks
 kinded-length [] [] e = refl
 kinded-length [] (v ∷ vs) e = absurd (false≢true e)
@@ -47,17 +41,6 @@ kinded-set (k ∷ ks) (w ∷ vs) zero v e l f = and-from (fits k v) (kinded ks v
 kinded-set (k ∷ ks) (w ∷ vs) (suc i) v e l f =
     let p = and-parts (fits k w) (kinded ks vs) e in
     and-from (fits k w) (kinded ks (set vs i v)) (p .0) (kinded-set ks vs i v (p .1) (omega arith) f)
-
-pub same-kind-is : (r : Bool) (a b : Kind) → cond r (a ≡ b) (a ≡ b → ⊥) → r ≡ sameKind a b
-same-kind-is true a b h = sym (rw h (same-kind-refl b))
-same-kind-is false a b h =
-    elim (cases-bool (sameKind a b)) [ inl e ↦ absurd (h (same-kind a b e)) | inr e ↦ sym e ]
-
-pub is-of : (now ks : List Kind) (i p : ℕ) (k : Kind) (r : Bool) → now ≡ ks → length ks ≡ 39 → i ≡ p → i < length now → cond r (getD now i Number ≡ k) (getD now i Number ≡ k → ⊥) → r ≡ (ltb p 39 && sameKind (getD ks p Number) k)
-is-of now ks i p k r e n q l h =
-    let s = same-kind-is r (getD now i Number) k h in
-    let t : ltb p 39 ≡ true = lt-ltb p 39 (omega (arith, ap length e)) in
-    rw t (s ∙ ap (λ (j : ℕ). sameKind (getD now j Number) k) q ∙ ap (λ (x : List Kind). sameKind (getD x p Number) k) e)
 
 pub kinds-39 : length kinds ≡ 39
 unfolding roles

@@ -1,7 +1,7 @@
 -- Values of the kinds of their cells. Assumes nothing.
 use mathlib.Core.Bool.{Bool, true, false, _&&_}
 use mathlib.Core.List.{List, [], _∷_, map}
-use Prim.Native.Nat.{ℕ, _^_}
+use Prim.Native.Nat.{_^_}
 use lib.Dec.{ltb, leb}
 use lib.ListN.{length}
 use lib.Signed.{mag}

@@ -6,7 +6,6 @@ ghost use Rattle.std.specs.Options.{mapped};
 ghost use Rattle.std.specs.declared.option.Option.the-variants.{Some};
 ghost use Rattle.cells.specs.Contents.{at, takes, numberIn};
 ghost use Rattle.cells.specs.Reading.{valueAt, asNumber, asMask};
-ghost use Rattle.cells.specs.Roles.{kindOf};
 ghost use Rattle.cells.specs.Values.{cellValue, storedOf, valueOf};
 ghost use Rattle.cells.specs.declared.roles.Kind.the-variants.{Number};
 use crate::directory::role_of;

@@ -1,7 +1,5 @@
 // What any store of cells means, whatever it is made of.
 ghost use mathlib.Core.Path.{_≡_};
-ghost use mathlib.Core.Bool.{Bool};
-ghost use Prim.Native.Nat.{ℕ};
 ghost use Rattle.std.specs.Results.{isOk};
 ghost use Rattle.grammar.specs.Texts.{bytesOf};
 ghost use Rattle.cells.specs.Contents.{Contents, Whole, at, numberIn, maskIn, textIn, Wrote, Saved, Reloaded};

@@ -1,12 +1,12 @@
 // Which values are lawful in a cell, its factory value, and the value that it has.
 ghost use mathlib.Core.Path.{_≡_};
-ghost use mathlib.Core.Bool.{Bool, true, false, _&&_};
-ghost use Prim.Native.Nat.{ℕ, _≤_};
+ghost use mathlib.Core.Bool.{true, false, _&&_};
+ghost use Prim.Native.Nat.{_≤_};
 ghost use lib.ListN.{length};
 ghost use Rattle.std.specs.Options.{Cases as BySome};
 ghost use Rattle.grammar.specs.Texts.{bytesOf};
 ghost use Rattle.cells.specs.Roles.{kindOf};
-ghost use Rattle.cells.specs.Values.{Value, number, mask, text, spans, lawfulNumber, lawfulMask, lawfulPassword, lawfulText, isMask, lawful, factory, cellValue, Valued, storedOf, valueOf};
+ghost use Rattle.cells.specs.Values.{number, mask, text, spans, lawfulNumber, lawfulMask, lawfulPassword, lawfulText, isMask, lawful, factory, cellValue, Valued, storedOf, valueOf};
 use crate::ratings::Ratings;
 use crate::roles::Kind;
 use crate::roles::Role;

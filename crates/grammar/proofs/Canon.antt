@@ -1,12 +1,11 @@
 -- The printed form is canonical. Assumes nothing.
-use mathlib.Core.Path.{_≡_, refl, sym, ap, subst, _∙_}
-use mathlib.Core.Bool.{Bool, true, false, cond}
+use mathlib.Core.Path.{_≡_, refl, sym, ap, _∙_}
+use mathlib.Core.Bool.{Bool, true, false}
 use mathlib.Core.List.{List, [], _∷_, _++_}
-use mathlib.Core.Logic.{_⊎_, inl, inr, ⊎-elim}
 use Prim.Native.Nat.{ℕ, zero, suc, _+_, _-_, _*_, _/_, _%_, _^_, _≤_, _<_}
 use native.Mathlib.Nat.{mul-assoc, add-mul, pow-le-pow-right, mul-lt-mul-of-pos-right}
 use native.Mathlib.Omega.{arith}
-use lib.IntN.{ℤ, pos, negsuc, natAbs, negℤ}
+use lib.IntN.{ℤ, pos, negsuc, natAbs}
 use lib.ListN.{length, getD, length-append}
 use lib.Pow.{pow-add}
 use Rattle.std.specs.Reads.{Digits, value}
@@ -16,7 +15,7 @@ use Rattle.std.proofs.shelf.Digits.{value-lt}
 use Rattle.std.proofs.shelf.Numerals.{digit-from-value}
 use Rattle.std.specs.shelf.Lists.{All}
 use Rattle.std.proofs.shelf.Tests.{true≢false}
-use Rattle.grammar.specs.Numbers.{Parts, Lawful, Reads, Plain, Canonical, signText, pointed, signed, negative, sizeOf, valueOf, spelled, printedParts, printed, shown, numberOf}
+use Rattle.grammar.specs.Numbers.{Parts, Lawful, Plain, Canonical, signText, pointed, signed, negative, sizeOf, valueOf, spelled, printedParts, printed, shown}
 use lib.Signed.{_≤ℤ_}
 use Rattle.std.proofs.shelf.Signed.{ints}
 use Rattle.grammar.specs.Range.{least, most}

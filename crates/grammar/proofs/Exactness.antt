@@ -1,22 +1,22 @@
 -- The computed reading gives just what the rule by parts gives. Assumes nothing.
 use mathlib.Core.Path.{_≡_, refl, sym, ap, subst, _∙_}
-use mathlib.Core.Bool.{Bool, true, false, cond}
+use mathlib.Core.Bool.{Bool, true, false}
 use mathlib.Core.List.{List, [], _∷_, _++_}
-use Prim.Native.Nat.{ℕ, zero, suc, _+_, _-_, _*_, _^_, _≤_, _<_}
+use Prim.Native.Nat.{ℕ, suc, _+_, _-_, _*_, _^_, _≤_, _<_}
 use native.Mathlib.Omega.{arith}
 use lib.Dec.{eqb, ltb}
 use lib.IntN.{ℤ}
-use lib.ListN.{length, getD}
+use lib.ListN.{length}
 use Rattle.std.specs.Options.{mapped}
 use Rattle.std.specs.Reads.{Digits, value, valueAfter}
 use Rattle.std.specs.Text.{asciiDigit, digitValue}
 use Rattle.std.specs.declared.option.Option.{Option}
 use Rattle.std.specs.declared.option.Option.the-variants.{Some, None}
-use Rattle.std.proofs.shelf.Tests.{ne-eqb, lt-ltb, le-ltb, eqb-true, eqb-false, ltb-true, cases-bool, true≢false}
+use Rattle.std.proofs.shelf.Tests.{ne-eqb, lt-ltb, eqb-true, eqb-false, ltb-true, cases-bool}
 use Rattle.std.proofs.shelf.Ways.{tells}
 use Rattle.std.proofs.shelf.Numerals.{digit-from-value}
-use mathlib.Core.Logic.{_⊎_, inl, inr, ⊎-elim}
-use Rattle.grammar.specs.Numbers.{Parts, signText, pointed, spelled, Lawful, signed, sizeOf, valueOf, Reads, afterPoint, beforePoint, numberOf, Exact}
+use mathlib.Core.Logic.{_⊎_, ⊎-elim}
+use Rattle.grammar.specs.Numbers.{Parts, signText, pointed, spelled, Lawful, signed, valueOf, afterPoint, beforePoint, numberOf, Exact}
 
 -- a decimal digit, in both words
 is-digit : (c : ℕ) → digitValue c < 10 → (asciiDigit c ≡ true) × (digitValue c ≡ c - 48) × (48 ≤ c) × (c ≤ 57)

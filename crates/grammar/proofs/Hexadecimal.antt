@@ -1,6 +1,6 @@
 -- Masks: what 0x and digits read as, and the one plain text of a mask. Assumes nothing.
 use mathlib.Core.Path.{_≡_, refl, sym, ap, _∙_}
-use mathlib.Core.Bool.{Bool, true, false, _&&_, _||_}
+use mathlib.Core.Bool.{true, false, _&&_, _||_}
 use mathlib.Core.List.{List, [], _∷_}
 use mathlib.Core.Logic.{_⊎_, inl, inr, ⊎-elim}
 use Prim.Native.Nat.{ℕ, _^_, _≤_, _<_}
@@ -10,7 +10,7 @@ use lib.ListN.{length, getD, drop}
 use Rattle.std.specs.declared.option.Option.{Option}
 use Rattle.std.specs.declared.option.Option.the-variants.{Some, None}
 use Rattle.std.proofs.shelf.Tests.{and-parts, and-from, or-cases, or-left, or-right, eq-eqb, eqb-true, cases-bool}
-use Rattle.grammar.specs.Masks.{ReadsMask, maskOf, ExactMask, printedMask, CanonicalMask}
+use Rattle.grammar.specs.Masks.{ReadsMask, maskOf, ExactMask, CanonicalMask}
 use Rattle.grammar.specs.Numerals.{numeralOf, numeral}
 use Rattle.grammar.proofs.Radix.{read, parts, numeral-short, canonical, none-some}
 

@@ -1,13 +1,13 @@
 -- Digits in a base: what they read as, and the one plain way to write a number in them. Assumes nothing.
 use mathlib.Core.Path.{_≡_, refl, sym, ap, subst, _∙_}
-use mathlib.Core.Bool.{Bool, true, false, cond, _&&_}
+use mathlib.Core.Bool.{true, false, _&&_}
 use mathlib.Core.List.{List, [], _∷_, _++_, map, append-assoc}
-use mathlib.Core.Logic.{_⊎_, inl, inr, ⊎-elim}
+use mathlib.Core.Logic.{_⊎_, ⊎-elim}
 use Prim.Native.Nat.{ℕ, zero, suc, _+_, _-_, _*_, _/_, _%_, _^_, _≤_, _<_}
-use native.Mathlib.Nat.{pow-le-pow-right, pow-suc, div-eq-of-lt, mod-eq-of-lt, zero-mul, mul-le-mul-left}
+use native.Mathlib.Nat.{pow-le-pow-right, div-eq-of-lt, mod-eq-of-lt, zero-mul, mul-le-mul-left}
 use native.Mathlib.Omega.{arith}
 use lib.Dec.{ltb, leb}
-use lib.ListN.{length, getD, take}
+use lib.ListN.{length, getD}
 use Rattle.std.specs.Reads.{Digits, value}
 use Rattle.std.specs.Text.{digitValue}
 use Rattle.std.specs.shelf.Digits.{digitsOf, number, numberAfter, Under}
@@ -16,7 +16,7 @@ use Rattle.std.specs.declared.option.Option.{Option}
 use Rattle.std.specs.declared.option.Option.the-variants.{Some, None}
 use Rattle.std.proofs.shelf.Bits.{div-mul-add, mod-mul-add, le-div}
 use Rattle.std.proofs.shelf.Digits.{digitsOf-step, length-digitsOf-le, under-digitsOf, first-digitsOf, number-digitsOf, numberAfter-ge, value-is, value-lt, under-from-digits}
-use Rattle.std.proofs.shelf.Lists.{map-push, length-push, length-take-le, length-map, append-nil, nil-from-length, getD-map}
+use Rattle.std.proofs.shelf.Lists.{map-push, length-push, length-map, append-nil, nil-from-length, getD-map}
 use Rattle.std.proofs.shelf.Tests.{and-parts, and-from, ne-eqb, lt-ltb, ltb-true, le-leb, leb-true, cases-bool, cases-eq, cond-true, cond-false}
 use Rattle.std.proofs.shelf.Ways.{tells}
 use Rattle.grammar.specs.Numerals.{ReadsNumeral, allDigits, numeralOf, ExactNumeral, digitChar, numeral, PlainNumeral, CanonicalNumeral}

@@ -20,10 +20,6 @@ use Rattle.grammar.specs.declared.numbers.scan.Scan.the-variants.{Start, Whole
 pub more-digits : (k n d : ℕ) → n < 10 ^ k → d < 10 → n * 10 + d < 10 ^ (k + 1)
 more-digits k n d h l = omega (arith, pow-add 10 k 1)
 
--- at most ten digits fit
-pub few-digits : (k n : ℕ) → n < 10 ^ k → k ≤ 10 → n < 10 ^ 10
-few-digits k n h few = let p : 10 ^ k ≤ 10 ^ 10 = pow-le-pow-right (omega arith) {i = k} {j = 10} few in omega arith
-
 -- digits of which k stand after the point, brought to millionths
 pub scaled : (k n : ℕ) → k ≤ 6 → n < 10 ^ (4 + k) → n * 10 ^ (6 - k) < 10 ^ 10
 scaled k n few h =

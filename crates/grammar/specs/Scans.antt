@@ -1,6 +1,6 @@
 -- A number that is being read byte by byte: what its bytes so far let the rest still become. Assumes nothing.
 use mathlib.Core.Path.{_≡_}
-use mathlib.Core.List.{List, [], _∷_, _++_}
+use mathlib.Core.List.{List, _∷_}
 use Prim.Native.Nat.{ℕ, _+_, _^_, _≤_, _<_}
 use lib.IntN.{ℤ}
 use Rattle.std.specs.Options.{mapped}

@@ -1,6 +1,6 @@
 // Indices and counts: bare decimal digits, apart from numbers.
 ghost use mathlib.Core.Path.{_≡_};
-ghost use Prim.Native.Nat.{ℕ, _≤_};
+ghost use Prim.Native.Nat.{_≤_};
 ghost use lib.ListN.{length};
 ghost use Rattle.std.specs.Options.{Cases as BySome};
 ghost use Rattle.grammar.specs.Numerals.{numeralOf, ExactNumeral, numeral, CanonicalNumeral};

@@ -1,6 +1,6 @@
 // The fields of a line, which is split at its colons.
 ghost use mathlib.Core.Path.{_≡_};
-ghost use mathlib.Core.List.{List, [], _∷_};
+ghost use mathlib.Core.List.{_∷_};
 ghost use lib.ListN.{length, drop};
 ghost use Rattle.grammar.specs.Fields.{fields, fieldsAfter, field, ExactFields};
 

@@ -1,6 +1,6 @@
 // Masks: 0x or 0X and one to eight hexadecimal digits of either case.
 ghost use mathlib.Core.Path.{_≡_};
-ghost use Prim.Native.Nat.{ℕ, _≤_};
+ghost use Prim.Native.Nat.{_≤_};
 ghost use lib.ListN.{length};
 ghost use Rattle.grammar.specs.Masks.{maskOf, ExactMask, printedMask, CanonicalMask};
 ghost use Rattle.grammar.specs.Texts.{bytesOf};

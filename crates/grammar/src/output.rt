@@ -1,5 +1,4 @@
 // Putting bytes into a lent output: what replies are made of.
-ghost use mathlib.Core.Path.{_≡_};
 ghost use Rattle.grammar.specs.Writing.{Appended};
 
 // Writes `bytes` from place `at` on, and answers the place after them.

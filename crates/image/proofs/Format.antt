@@ -1,23 +1,22 @@
 -- The image format: what is written is read back. Assumes nothing.
-use Prim.Native.Nat.{ℕ, zero, suc, _+_, _*_, _/_, _%_, _^_, _<_, _≤_}
-use mathlib.Core.Bool.{Bool, true, false, cond, _&&_, _||_}
+use Prim.Native.Nat.{ℕ, suc, _+_, _*_, _^_, _<_, _≤_}
+use mathlib.Core.Bool.{true, false}
 use mathlib.Core.List.{List, [], _∷_, _++_}
-use mathlib.Core.Logic.{inl, inr}
-use mathlib.Core.Path.{_≡_, refl, sym, ap, subst, _∙_}
+use mathlib.Core.Path.{_≡_, refl, ap, _∙_}
 use native.Mathlib.Omega.{arith}
-use lib.ListN.{length, take, drop, getD, replicate}
+use lib.ListN.{length, take, drop}
 use lib.Dec.{ltb, leb, eqb}
 use lib.IntN.{ℤ, pos, negsuc}
 use mir.Syntax.{w64}
 use mir.Val.{ofZ, toZ, SFits}
 use Rattle.std.proofs.shelf.Lists.{take-at, drop-at, append-assoc, length-append, length-replicate}
 use Rattle.std.proofs.shelf.Signed.{toZ-ofZ}
-use Rattle.std.proofs.shelf.Tests.{and-parts, and-from, false≢true, ltb-true, leb-true, eq-eqb, ne-eqb, le-leb, cond-true, cond-false, cond-both}
+use Rattle.std.proofs.shelf.Tests.{and-parts, and-from, false≢true, ltb-true, eq-eqb, ne-eqb, le-leb, cond-true, cond-false, cond-both}
 use Rattle.std.specs.declared.option.Option.{Option}
 use Rattle.std.specs.declared.option.Option.the-variants.{Some, None}
-use Rattle.cells.specs.Values.{Value, absent, number, mask, text, spoken}
+use Rattle.cells.specs.Values.{Value, absent, number, mask, text}
 use Rattle.cells.specs.Kinded.{fits, kinded}
-use Rattle.image.specs.Image.{be16, be32, be64, from16, from32, from64, content, contents, directory, encoded, sized, present, valueIn, after, lawful, parse, orAbsent, decoded}
+use Rattle.image.specs.Image.{from16, content, contents, directory, encoded, sized, valueIn, after, lawful, parse, orAbsent, decoded}
 use Rattle.cells.specs.declared.roles.Kind.{Kind}
 use Rattle.cells.specs.declared.roles.Kind.the-variants.{Number, Mask, Text}
 use Rattle.image.proofs.Bytes.{from16-be16, from32-be32, from64-be64}
@@ -68,10 +67,6 @@ parse-step k ks at ps cs n v o a e s l hv ho =
     ∙ ap (λ (m : ℕ). after (valueIn k (take m cs)) (parse ks (at + m) (drop 4 ps) (drop m cs))) e
     ∙ ap (λ (x : Value). after x (parse ks (at + n) (drop 4 ps) (drop n cs))) hv
     ∙ ap (after v) ho
-
--- one cell is refused
-pub parse-stop : (k : Kind) (ks : List Kind) (at : ℕ) (ps cs : List ℕ) → lawful k at ps cs ≡ false → parse (k ∷ ks) at ps cs ≡ None
-parse-stop k ks at ps cs e = cond-false (lawful k at ps cs) _ _ e
 
 pub parse-written : (ks : List Kind) (vs : List Value) (at : ℕ) (ps cs : List ℕ) → kinded ks vs ≡ true → at + length (contents vs) < 65536 → parse ks at (directory at vs ++ ps) (contents vs ++ cs) ≡ Some vs
 parse-written [] [] at ps cs e l = refl

@@ -1,11 +1,11 @@
 -- The steps of reading an image. Assumes nothing.
-use Prim.Native.Nat.{ℕ, zero, suc, _+_, _*_, _-_, _<_, _≤_}
-use mathlib.Core.Bool.{Bool, true, false, cond, _&&_, _||_}
+use Prim.Native.Nat.{ℕ, _+_, _*_, _-_, _<_, _≤_}
+use mathlib.Core.Bool.{Bool, true, false, _&&_}
 use mathlib.Core.List.{List, [], _∷_, _++_}
-use mathlib.Core.Path.{_≡_, refl, sym, ap, subst, _∙_}
+use mathlib.Core.Path.{_≡_, refl, sym, ap, _∙_}
 use native.Mathlib.Omega.{arith}
 use lib.ListN.{length, take, drop, getD, set, replicate}
-use lib.Dec.{ltb, leb, eqb}
+use lib.Dec.{leb, eqb}
 use Rattle.std.proofs.shelf.Lists.{getD-drop, length-drop, drop-drop, drop-more, take-more-set, append-assoc, take-all, drop-all, append-nil}
 use Rattle.std.proofs.shelf.Tests.{and-parts, leb-true, cond-true, cond-false, le-leb, lt-leb}
 use Rattle.std.specs.declared.option.Option.{Option}
@@ -77,14 +77,6 @@ all-three a b x p q = rw (p, ← q)
 
 pub not-second : (a b x : Bool) → a ≡ true → false ≡ b → false ≡ (a && (b && x))
 not-second a b x p q = rw (p, ← q)
-
--- the same at the list that the program holds
-pub read-again : (held ks : List Kind) (bs : List ℕ) (i at n : ℕ) (us vs : List Value) (v : Value) (whole : Option (List Value)) → held ≡ ks → i < length ks → i < length us → whole ≡ onto (take i us) (rest ks bs i at) → Pair (getD held i Number) i at n bs → v ≡ valueIn (getD held i Number) (take (at + n - at) (drop at bs)) → vs ≡ set us i v → whole ≡ onto (take (i + 1) vs) (rest ks bs (i + 1) (at + n))
-read-again held ks bs i at n us vs v whole e li lu inv p hv hs =
-    let p′ = subst (λ (x : List Kind). Pair (getD x i Number) i at n bs) e p in
-    let m : at + n - at ≡ n = omega arith in
-    let hv′ : v ≡ valueIn (getD ks i Number) (take n (drop at bs)) = hv ∙ ap (λ (x : List Kind). valueIn (getD x i Number) (take (at + n - at) (drop at bs))) e ∙ ap (λ (j : ℕ). valueIn (getD ks i Number) (take j (drop at bs))) m in
-    inv ∙ rest-more ks bs i at n us v li lu p′ hv′ ∙ ap (λ (x : List Value). onto (take (i + 1) x) (rest ks bs (i + 1) (at + n))) (sym hs)
 
 pub rest-all : (ks : List Kind) (bs : List ℕ) (i at : ℕ) (vs : List Value) → length ks ≤ i → length vs ≤ i → onto (take i vs) (rest ks bs i at) ≡ Some vs
 rest-all ks bs i at vs lk lv =

@@ -1,24 +1,24 @@
 -- What is read was written. Assumes nothing.
-use Prim.Native.Nat.{ℕ, zero, suc, _+_, _*_, _/_, _%_, _^_, _<_, _≤_}
-use mathlib.Core.Bool.{Bool, true, false, cond, _&&_, _||_}
+use Prim.Native.Nat.{ℕ, suc, _+_, _*_, _^_, _<_, _≤_}
+use mathlib.Core.Bool.{true, _&&_}
 use mathlib.Core.List.{List, [], _∷_, _++_}
 use mathlib.Core.Logic.{inl, inr}
 use mathlib.Core.Path.{_≡_, refl, sym, ap, subst, _∙_}
 use native.Mathlib.Omega.{arith}
-use lib.ListN.{length, take, drop, getD, replicate}
+use lib.ListN.{length, take, drop, getD}
 use lib.Dec.{ltb, leb, eqb}
 use lib.Signed.{mag}
 use mir.Syntax.{w64}
-use mir.Val.{ofZ, toZ, SFits}
+use mir.Val.{toZ}
 use mir.Facts.{sfits-toZ}
-use Rattle.std.proofs.shelf.Lists.{take-append-drop, length-take-le, append-assoc, nil-from-length, getD-take, getD-drop, getD-past, length-take}
+use Rattle.std.proofs.shelf.Lists.{take-append-drop, length-take-le, append-assoc, nil-from-length, getD-take, getD-drop, getD-past}
 use Rattle.std.proofs.shelf.Signed.{ofZ-toZ}
-use Rattle.std.proofs.shelf.Tests.{and-parts, and-from, or-cases, false≢true, leb-true, eqb-true, lt-ltb, le-leb, cond-false, cond-both, ne-eqb, cases-bool, cases-lt}
+use Rattle.std.proofs.shelf.Tests.{and-parts, and-from, or-cases, leb-true, eqb-true, lt-ltb, cond-false, cond-both, ne-eqb, cases-lt}
 use Rattle.std.specs.declared.option.Option.{Option}
 use Rattle.std.specs.declared.option.Option.the-variants.{Some, None}
-use Rattle.cells.specs.Values.{Value, absent, number, mask, text, spoken}
+use Rattle.cells.specs.Values.{Value, absent, text}
 use Rattle.cells.specs.Kinded.{fits, kinded}
-use Rattle.image.specs.Image.{be16, be32, be64, from16, from32, from64, content, contents, directory, encoded, sized, present, valueIn, after, lawful, parse, orAbsent, decoded}
+use Rattle.image.specs.Image.{be16, be64, from32, from64, content, contents, directory, sized, valueIn, after, lawful, parse}
 use Rattle.cells.specs.declared.roles.Kind.{Kind}
 use Rattle.cells.specs.declared.roles.Kind.the-variants.{Number, Mask, Text}
 use Rattle.image.proofs.Bytes.{be16-from16, be32-from32, be64-from64, from64-small, from32-small}

@@ -1,12 +1,12 @@
 -- The steps of writing an image. Assumes nothing.
-use Prim.Native.Nat.{ℕ, zero, suc, _+_, _*_, _-_, _<_, _≤_, max}
-use mathlib.Core.Bool.{Bool, true, false, _&&_}
+use Prim.Native.Nat.{ℕ, _+_, _-_, _<_, _≤_}
+use mathlib.Core.Bool.{true, false}
 use mathlib.Core.List.{List, [], _∷_, _++_}
-use mathlib.Core.Path.{_≡_, refl, sym, ap, subst, _∙_}
+use mathlib.Core.Path.{_≡_, refl, sym, ap, _∙_}
 use native.Mathlib.Omega.{arith}
 use lib.ListN.{length, take, drop, getD}
 use lib.Dec.{ltb, leb}
-use Rattle.std.proofs.shelf.Lists.{append-assoc, append-nil, length-append, take-more, take-all, take-append-drop, length-map, getD-map}
+use Rattle.std.proofs.shelf.Lists.{append-assoc, append-nil, length-append, take-more, take-all, take-append-drop, length-map}
 use Rattle.std.proofs.shelf.Tests.{and-parts, false≢true, leb-true}
 use Rattle.cells.specs.Values.{Value, absent, number, mask, text, spoken}
 use Rattle.cells.specs.Kinded.{fits, kinded}
@@ -17,7 +17,7 @@ use Rattle.image.specs.Image.{be16, content, contents, directory, encoded}
 use Rattle.cells.specs.declared.roles.Kind.{Kind}
 use Rattle.cells.specs.declared.roles.Kind.the-variants.{Number, Mask, Text}
 use Rattle.cells.specs.declared.stored.Stored.{Stored}
-use Rattle.cells.proofs.Sorts.{slots-39, kinds-39, slot-at}
+use Rattle.cells.proofs.Sorts.{slots-39, slot-at}
 use Rattle.image.proofs.Format.{encoded-length}
 
 pub content-spoken : (bs : List ℕ) → content (spoken bs) ≡ bs

@@ -1,8 +1,8 @@
 // Writing the image of cells: a pair of offset and length for each, then the contents.
 ghost use mathlib.Core.Path.{_≡_};
 ghost use mathlib.Core.Bool.{true};
-ghost use mathlib.Core.List.{List, [], _++_};
-ghost use Prim.Native.Nat.{ℕ, _+_, _<_, _≤_};
+ghost use mathlib.Core.List.{[], _++_};
+ghost use Prim.Native.Nat.{_+_, _<_, _≤_};
 ghost use lib.ListN.{length};
 ghost use Rattle.cells.specs.Directory.{kinds};
 ghost use Rattle.cells.specs.Kinded.{kinded, valuesIn};

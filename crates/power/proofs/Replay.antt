@@ -6,7 +6,6 @@ use native.Mathlib.Omega.{arith}
 use lib.Bits.{bitAnd, and-step, and-zero-r}
 use lib.Arith.{bin-ind}
 use lib.IntN.{ℤ}
-use lib.Signed.{_≤ℤ_}
 use Rattle.grammar.specs.Range.{clamp}
 use Rattle.std.proofs.shelf.Signed.{ints}
 use Rattle.power.specs.Meaning.{Ranged, tripLines}

@@ -1,7 +1,5 @@
 // What any power module means, whatever it is made of.
 ghost use mathlib.Core.Path.{_≡_};
-ghost use mathlib.Core.Bool.{Bool, not};
-ghost use lib.IntN.{ℤ};
 ghost use Prim.Native.Nat.{ℕ};
 ghost use Rattle.std.specs.Results.{isOk};
 ghost use Rattle.power.specs.Meaning.{Meaning, Counted, Lawful, switchedOn, switchedOff, mayChoose, chosen, applies, applied, advanced, temperatureAt, low, high};

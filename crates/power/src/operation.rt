@@ -1,9 +1,8 @@
 // What can be done with any power module, known from its meaning alone.
 ghost use mathlib.Core.Path.{_≡_};
-ghost use mathlib.Core.Bool.{Bool, false, cond};
-ghost use lib.IntN.{ℤ};
+ghost use mathlib.Core.Bool.{false, cond};
 ghost use Rattle.std.specs.Results.{isOk};
-ghost use Rattle.power.specs.Meaning.{Meaning, rated, started, rested};
+ghost use Rattle.power.specs.Meaning.{rated, started, rested};
 use crate::loops::Loop;
 use crate::modules::PowerModule;
 use crate::modules::Refused;

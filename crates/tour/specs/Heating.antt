@@ -1,7 +1,6 @@
 -- A magnet that runs until it trips. Assumes nothing.
 use mathlib.Core.Path.{_≡_}
 use Prim.Native.Nat.{ℕ, _<_}
-use lib.IntN.{ℤ}
 use Rattle.std.specs.declared.option.Option.{Option}
 use Rattle.std.specs.declared.option.Option.the-variants.{Some, None}
 use Rattle.power.specs.Magnets.{goal, heatLine, movedBy, readingsAt}

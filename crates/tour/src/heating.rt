@@ -1,7 +1,5 @@
 // A magnet that is heated until its supply trips.
-ghost use mathlib.Core.Path.{_≡_};
-ghost use Prim.Native.Nat.{ℕ};
-ghost use Rattle.power.specs.Magnets.{magnetMeaning, goal};
+ghost use Rattle.power.specs.Magnets.{magnetMeaning};
 ghost use Rattle.tour.specs.Heating.{RunsToTrip};
 use power::Magnet;
 use power::MagnetModule;

@@ -1,6 +1,6 @@
 // Cells kept in the bytes of an image.
 ghost use mathlib.Core.Path.{_≡_};
-ghost use mathlib.Core.Bool.{Bool, true};
+ghost use mathlib.Core.Bool.{true};
 ghost use Rattle.std.specs.Results.{isOk};
 ghost use Rattle.cells.specs.Contents.{put};
 ghost use Rattle.cells.specs.Directory.{kinds};

@@ -1,17 +1,16 @@
 // Reading and writing the cells of an array.
 ghost use mathlib.Core.Path.{_≡_};
-ghost use mathlib.Core.Bool.{Bool, true, false, _&&_, cond};
+ghost use mathlib.Core.Bool.{true, false, _&&_, cond};
 ghost use lib.Dec.{ltb};
 ghost use Rattle.std.specs.Results.{isOk};
-ghost use mathlib.Core.List.{List};
-ghost use Prim.Native.Nat.{ℕ, _≤_, _<_};
-ghost use lib.ListN.{length, replicate, getD, set};
+ghost use Prim.Native.Nat.{_<_};
+ghost use lib.ListN.{replicate, getD, set};
 ghost use Rattle.std.specs.Options.{Cases as BySome};
 ghost use Rattle.grammar.specs.Texts.{bytesOf};
 ghost use Rattle.cells.specs.Contents.{at, put, takes, numberIn, maskIn, textIn};
 ghost use Rattle.cells.specs.Directory.{kinds, place};
 ghost use Rattle.cells.specs.Kinded.{fits, valuesIn};
-ghost use Rattle.cells.specs.Values.{Value, absent, number, mask, spoken, storedOf};
+ghost use Rattle.cells.specs.Values.{absent, number, mask, spoken, storedOf};
 ghost use Rattle.cells.specs.declared.roles.Kind.the-variants.{Number, Mask, Text as Words};
 use super::CellArray;
 use crate::directory::kind_at;

@@ -2,7 +2,6 @@
 ghost use mathlib.Core.Path.{_≡_};
 ghost use mathlib.Core.List.{[]};
 ghost use Prim.Native.Nat.{_+_, _-_, _*_, _^_, _≤_, _<_};
-ghost use lib.IntN.{ℤ};
 ghost use Rattle.std.specs.Options.{mapped};
 ghost use Rattle.grammar.specs.Numbers.{millionthsOf, signed};
 ghost use Rattle.grammar.specs.Scans.{readFrom, Bounded, Steps};

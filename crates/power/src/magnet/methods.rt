@@ -1,11 +1,9 @@
 // What the magnet model does.
 ghost use mathlib.Core.Path.{_≡_};
-ghost use mathlib.Core.Bool.{Bool};
-ghost use Prim.Native.Nat.{ℕ};
 ghost use lib.IntN.{ℤ, pos, negsuc};
 ghost use lib.Signed.{_≤ℤ_, quotZ};
 ghost use Rattle.std.specs.Numbers.{maxZ, minZ};
-ghost use Rattle.power.specs.Magnets.{magnetMeaning, magnetStart, goal, moved, heat, heatLine, readingsAt, movedBy, Approaches};
+ghost use Rattle.power.specs.Magnets.{magnetMeaning, magnetStart, goal, moved, heat, readingsAt, movedBy, Approaches};
 ghost use Rattle.power.specs.Meaning.{advanced};
 use super::Magnet;
 use crate::loops::Loop;

@@ -1,9 +1,5 @@
 // What the recording does.
 ghost use mathlib.Core.Path.{_≡_};
-ghost use mathlib.Core.Bool.{Bool};
-ghost use Prim.Native.Nat.{ℕ};
-ghost use lib.IntN.{ℤ, pos};
-ghost use lib.ListN.{length};
 ghost use Rattle.std.specs.Of.Vec.{vec-items};
 ghost use Rattle.power.specs.Meaning.{advanced, temperatureAt};
 ghost use Rattle.power.specs.Recordings.{readingsOf, shownOf, recordsOf, placeOf, placeAfter, recordingMeaning, recordingStart};

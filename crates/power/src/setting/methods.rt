@@ -1,7 +1,7 @@
 // How a setting is changed, with the ratings of the modules here.
 ghost use mathlib.Core.Path.{_≡_};
-ghost use mathlib.Core.Bool.{Bool, true, false, not, _&&_, cond};
-ghost use lib.IntN.{ℤ, pos};
+ghost use mathlib.Core.Bool.{true, false, not, _&&_, cond};
+ghost use lib.IntN.{pos};
 ghost use Rattle.std.specs.Results.{isOk};
 ghost use Rattle.power.specs.Meaning.{rated};
 ghost use Rattle.power.specs.Rated.{standardRatings};

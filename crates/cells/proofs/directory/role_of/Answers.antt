@@ -1,12 +1,9 @@
-use mathlib.Core.Path.{_≡_, sym, ap, _∙_}
-use mathlib.Core.List.{List}
-use Prim.Native.Nat.{ℕ}
+use mathlib.Core.Path.{sym, ap, _∙_}
 use native.Mathlib.Omega.{arith}
-use lib.ListN.{length, getD}
+use lib.ListN.{length}
 use Rattle.std.specs.shelf.Maps.{nth}
 use Rattle.std.proofs.shelf.Maps.{nth-getD, nth-past}
 use Rattle.cells.specs.Directory.{roles, place}
-use Rattle.cells.specs.declared.roles.Role.{Role}
 use Rattle.cells.specs.declared.roles.Role.the-variants.{Model}
 use Rattle.cells.proofs.Listed.{roles-39}
 use Rattle.cells.proofs.directory.role_of.Needs as need

@@ -1,9 +1,9 @@
-use mathlib.Core.Path.{_≡_, sym, ap, _∙_}
+use mathlib.Core.Path.{ap, _∙_}
 use mathlib.Core.List.{List}
 use lib.IntN.{ℤ}
 use mir.Syntax.{w64}
 use Rattle.std.proofs.shelf.Signed.{toZ-ofZ}
-use Rattle.cells.specs.Contents.{Contents, at, put, numberIn}
+use Rattle.cells.specs.Contents.{at, put, numberIn}
 use Rattle.cells.specs.Values.{Value, number}
 use Rattle.cells.specs.declared.roles.Kind.the-variants.{Number}
 use Rattle.cells.proofs.Access.{read-back, at-put-other}

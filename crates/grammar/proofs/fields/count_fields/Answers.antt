@@ -1,7 +1,6 @@
 use native.Mathlib.Omega.{arith}
 use Prim.Native.Nat.{ℕ}
 use mathlib.Core.List.{List}
-use Rattle.grammar.specs.Fields.{fields}
 use Rattle.grammar.proofs.Splits.{count-found, count-other, count-end}
 use Rattle.grammar.proofs.fields.count_fields.Needs as need
 use Rattle.grammar.proofs.fields.count_fields.Needs.{then-b-eq58, else-b-eq58}

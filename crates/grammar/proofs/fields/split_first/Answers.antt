@@ -1,11 +1,9 @@
-use mathlib.Core.Path.{_≡_, sym, _∙_}
-use mathlib.Core.List.{_∷_, []}
+use mathlib.Core.Path.{sym, _∙_}
 use native.Mathlib.Omega.{arith}
 use native.Mathlib.Nat.{sub-zero}
-use Prim.Native.Nat.{_+_, _<_, _≤_}
+use Prim.Native.Nat.{_+_}
 use lib.ListN.{length}
 use Rattle.std.proofs.shelf.Parts.{between-to-end}
-use Rattle.grammar.specs.Fields.{fields}
 use Rattle.grammar.proofs.Splits.{front-none, front-more, front-found, front-all}
 use Rattle.grammar.proofs.fields.split_first.Needs as need
 

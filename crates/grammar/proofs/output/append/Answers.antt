@@ -1,4 +1,3 @@
-use native.Mathlib.Omega.{arith}
 use borrow.Author.Needs.{needs}
 use Rattle.grammar.proofs.Writes.{wrote-copy}
 use Rattle.grammar.proofs.output.append.Needs as need

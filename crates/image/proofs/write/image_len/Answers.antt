@@ -1,13 +1,13 @@
-use Prim.Native.Nat.{ℕ, _+_, _≤_}
-use mathlib.Core.Path.{_≡_, ap, sym, _∙_}
+use Prim.Native.Nat.{_≤_}
+use mathlib.Core.Path.{ap}
 use mathlib.Core.List.{List}
 use native.Mathlib.Omega.{arith}
-use lib.ListN.{length, take}
+use lib.ListN.{length}
 use Rattle.std.proofs.shelf.Lists.{length-map}
 use Rattle.cells.specs.Values.{Value}
 use Rattle.cells.specs.Values.{storedOf}
 use Rattle.cells.specs.Kinded.{valuesIn}
-use Rattle.image.specs.Image.{content, contents, encoded}
+use Rattle.image.specs.Image.{content, contents}
 use Rattle.cells.specs.declared.stored.Stored.{Stored}
 use Rattle.cells.proofs.Sorts.{slots-39}
 use Rattle.image.proofs.Format.{encoded-length}

@@ -1,10 +1,7 @@
-use Prim.Native.Nat.{ℕ, _+_, _≤_, _<_}
-use mathlib.Core.Path.{_≡_, ap, sym, _∙_}
-use mathlib.Core.List.{List, _++_}
+use Prim.Native.Nat.{_≤_, _<_}
+use mathlib.Core.Path.{ap, _∙_}
 use native.Mathlib.Omega.{arith}
 use lib.ListN.{length, take, length-take}
-use Rattle.std.proofs.shelf.Lists.{length-map}
-use Rattle.cells.specs.Values.{Value}
 use Rattle.cells.specs.Values.{storedOf}
 use Rattle.cells.specs.Kinded.{valuesIn}
 use Rattle.image.specs.Image.{content, directory}

@@ -1,16 +1,9 @@
-use mathlib.Core.Path.{_≡_, sym, ap, _∙_}
-use mathlib.Core.Bool.{Bool, true}
-use Prim.Native.Nat.{_<_}
-use native.Mathlib.Omega.{arith}
-use lib.Dec.{ltb}
-use lib.ListN.{getD}
+use mathlib.Core.Path.{sym, ap, _∙_}
 use Rattle.std.proofs.shelf.Lists.{map-set}
 use Rattle.std.proofs.shelf.Tests.{and-from, lt-ltb}
-use Rattle.cells.specs.Directory.{kinds}
 use Rattle.cells.specs.Kinded.{fits}
 use Rattle.cells.specs.Values.{storedOf}
 use Rattle.cells.specs.declared.roles.Kind.{Kind}
-use Rattle.cells.specs.declared.roles.Kind.the-variants.{Number}
 use Rattle.cells.proofs.Sorts.{kinded-fill}
 use Rattle.cells.proofs.array.CellArray.fill.Needs as need
 

@@ -1,6 +1,6 @@
-use mathlib.Core.Path.{_≡_, refl, sym, ap, _∙_}
-use mathlib.Core.List.{List, _++_}
-use Prim.Native.Nat.{ℕ, _/_, _%_, _<_, _≤_}
+use mathlib.Core.Path.{_≡_, refl, ap, _∙_}
+use mathlib.Core.List.{_++_}
+use Prim.Native.Nat.{_/_, _%_}
 use native.Mathlib.Omega.{arith}
 use borrow.Author.Needs.{needs}
 use lib.IntN.{ℤ, pos, negsuc, natAbs}
@@ -12,7 +12,7 @@ use Rattle.std.proofs.shelf.Signed.{toZ-ofZ}
 use Rattle.std.proofs.shelf.Tests.{le-ltb}
 use Rattle.grammar.specs.Numbers.{signText, negative, pointed, shown}
 use Rattle.grammar.specs.Numerals.{numeral}
-use Rattle.grammar.proofs.Canon.{Within, within, canonical, printed-short}
+use Rattle.grammar.proofs.Canon.{within, canonical, printed-short}
 use Rattle.grammar.proofs.numbers.print.print_number.Needs as need
 
 sign-test : (v : ℤ) → ltZ v (pos 0) ≡ negative v

@@ -1,4 +1,4 @@
-use mathlib.Core.Path.{_≡_, sym, _∙_}
+use mathlib.Core.Path.{sym, _∙_}
 use Rattle.grammar.proofs.Exactness.{reads-exactly}
 use Rattle.grammar.proofs.Reading.{at-byte, at-end}
 use Rattle.grammar.proofs.numbers.read.read_number.Needs as need

@@ -1,5 +1,5 @@
-use mathlib.Core.Path.{ap, subst, sym}
-use Prim.Native.Nat.{_*_, _^_, _<_}
+use mathlib.Core.Path.{ap}
+use Prim.Native.Nat.{_*_}
 use native.Mathlib.Omega.{arith}
 use Rattle.grammar.proofs.Reading.{scaled}
 use Rattle.grammar.proofs.numbers.scan.in_millionths.Needs as need

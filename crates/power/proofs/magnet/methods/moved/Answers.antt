@@ -1,5 +1,4 @@
 use native.Mathlib.Omega.{arith}
-use borrow.Author.Needs.{needs}
 use Rattle.std.proofs.shelf.Signed.{toZ-ofZ, ints}
 use Rattle.power.proofs.magnet.methods.moved.Needs as need
 

@@ -1,5 +1,5 @@
 use mathlib.Core.Path.{_≡_}
-use Rattle.power.specs.Recordings.{recordsOf, placeOf, placeAfter, recordingMeaning, shownOf}
+use Rattle.power.specs.Recordings.{recordsOf, placeOf, placeAfter, recordingMeaning}
 use Rattle.power.specs.Meaning.{advanced}
 use Rattle.power.proofs.recording.Recording.advance_by.Given as given
 
