@@ -1,4 +1,6 @@
 // Parameter cells: their directory, their values, and stores of them by what they mean.
+#![tactic(auto)]
+
 pub mod array;
 pub mod directory;
 pub mod ratings;

@@ -15,7 +15,7 @@ use crate::values::cell_value;
 
 // The value of a cell, by its working one; none where there is no such cell.
 pub fn read_cell<S: CellStore>(store: &S, cell: u32, ratings: &Ratings) -> Option<CellValue>
-    ensures value { option_map value_of result ≡ value_at ratings.now (contents store.now).working cell }
+    ensures value { option_map value_of result ≡ value_at ratings.now (S.contents store.now).working cell }
 {
     match role_of(cell) {
         Some(role) => Some(value_in(store, cell, role, ratings)),
@@ -25,7 +25,7 @@ pub fn read_cell<S: CellStore>(store: &S, cell: u32, ratings: &Ratings) -> Optio
 
 // The value of a cell that has this role.
 fn value_in<S: CellStore>(store: &S, cell: u32, role: Role, ratings: &Ratings) -> CellValue
-    ensures value { value_of result ≡ cell_value ratings.now role (at (contents store.now).working cell) }
+    ensures value { value_of result ≡ cell_value ratings.now role (at (S.contents store.now).working cell) }
 {
     match role.kind() {
         Kind::Number => cell_value(role, ratings, number_or_absent(store.number(cell))),
@@ -54,9 +54,9 @@ fn mask_or_absent(value: Option<u32>) -> Stored
 
 // Writes a number into a cell and reads it back: it is there if the cell takes numbers, and all else is as it was.
 pub fn exchange_number<S: CellStore>(store: &mut S, cell: u32, value: i64) -> Option<i64>
-    ensures value { result ≡ (if takes Number cell then Some value else number_in (at (contents store.old).working cell)) }
-    ensures others { (d : ℕ) → (cell ≢ d) → at (contents store.new).working d ≡ at (contents store.old).working d }
-    ensures saved { (contents store.new).saved ≡ (contents store.old).saved }
+    ensures value { result ≡ (if takes Number cell then Some value else number_in (at (S.contents store.old).working cell)) }
+    ensures others { (d : ℕ) → (cell ≢ d) → at (S.contents store.new).working d ≡ at (S.contents store.old).working d }
+    ensures saved { (S.contents store.new).saved ≡ (S.contents store.old).saved }
 {
     store.set_number(cell, value);
     store.number(cell)

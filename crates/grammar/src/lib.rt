@@ -1,4 +1,6 @@
 // The grammar of command lines and replies.
+#![tactic(auto)]
+
 pub mod counts;
 mod digits;
 pub mod examples;

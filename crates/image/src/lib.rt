@@ -1,4 +1,6 @@
 // A store of cells over the bytes of an image.
+#![tactic(auto)]
+
 mod read;
 mod sink;
 pub mod store;

@@ -1,4 +1,6 @@
 // Power modules by what they mean: the trait, a magnet model and a recording.
+#![tactic(auto)]
+
 pub mod loops;
 pub mod magnet;
 pub mod modules;

@@ -8,14 +8,14 @@ use Rattle.cells.specs.declared.roles.Role.TheVariants.{Model}
 use Rattle.cells.proofs.Listed.{roles-39}
 use Rattle.cells.proofs.directory.kind_at.Goals as goal
 
-pub bounds-all-roles-at : goal.bounds-all-roles-at
-bounds-all-roles-at c = omega (arith, ap length c.all-roles.ensures.value, roles-39, c.if-at-ge-CELL-COUNT.false)
+pub bounds-all_roles-at : goal.bounds-all_roles-at
+bounds-all_roles-at c = omega (arith, ap length c.all_roles.ensures.value, roles-39, c.if-at-ge-CELL_COUNT.false)
 
 pub returns : goal.returns
 returns c = record {
   cases = (
-    c.if-at-ge-CELL-COUNT.false,
-    c.kind.ensures.value ∙ ap (λ (rs : List Role). kind_of (get_or rs c.args.at Model)) c.all-roles.ensures.value
-        ∙ sym (get_or-map kind_of roles c.args.at Model Number (omega (arith, roles-39, c.if-at-ge-CELL-COUNT.false))),
+    c.if-at-ge-CELL_COUNT.false,
+    c.kind.ensures.value ∙ ap (λ (rs : List Role). kind_of (get_or rs c.args.at Model)) c.all_roles.ensures.value
+        ∙ sym (get_or-map kind_of roles c.args.at Model Number (omega (arith, roles-39, c.if-at-ge-CELL_COUNT.false))),
   );
 }

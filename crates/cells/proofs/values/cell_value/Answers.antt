@@ -14,8 +14,8 @@ returns-in-Some c =
 pub returns-in-None : goal.returns-in-None
 returns-in-None c =
     let h = c.in-None.ensures.cases in
-    let e = c.factory-value.ensures.value in
+    let e = c.factory_value.ensures.value in
     record {
       value = e ∙ sym (factory-kept c.args.ratings.now c.args.role (stored_of c.args.stored) h);
-      exact = from-factory c.args.ratings.now c.args.role (stored_of c.args.stored) (value_of c.factory-value.result) h e;
+      exact = from-factory c.args.ratings.now c.args.role (stored_of c.args.stored) (value_of c.factory_value.result) h e;
     }

@@ -19,7 +19,7 @@ none (p ∷ ps) r h d = absurd (omega arith)
 pub returns-in-Some : goal.returns-in-Some
 returns-in-Some c =
     let h = c.in-Some.ensures.item in
-    let p = some c.args.temperatures.now c.in-Some.first.now c.hottest-from.result.millionths h.3.0 h.1 c.hottest-from.ensures.value in
+    let p = some c.args.temperatures.now c.in-Some.first.now c.hottest_from.result.millionths h.3.0 h.1 c.hottest_from.ensures.value in
     record { value = p.0; law = p.1 }
 
 pub returns-in-None : goal.returns-in-None

@@ -6,10 +6,10 @@ use Rattle.grammar.proofs.counts.print_count.Goals as goal
 short : (n : ℕ) → n ≤ 4294967295 → length (numeral 10 n) ≤ 10
 short n h = numeral-short 10 (omega arith) (omega arith) 10 n (omega arith) (omega arith)
 
-pub push-digits-requires : goal.push-digits-requires
-push-digits-requires c = (omega arith, (omega arith, omega (arith, short c.args.n (omega arith), ap length c.absent-text.ensures.value)))
+pub push_digits-requires : goal.push_digits-requires
+push_digits-requires c = (omega arith, (omega arith, omega (arith, short c.args.n (omega arith), ap length c.absent-text.ensures.value)))
 
 pub returns : goal.returns
 returns c =
-    let value = c.push-digits.ensures.bytes ∙ ap (λ (t : List ℕ). t ++ numeral 10 c.args.n) c.absent-text.ensures.value in
+    let value = c.push_digits.ensures.bytes ∙ ap (λ (t : List ℕ). t ++ numeral 10 c.args.n) c.absent-text.ensures.value in
     record { value = value; bound = omega (arith, ap length value, short c.args.n (omega arith)); canonical = canonical 10 (omega arith) (omega arith) c.args.n }

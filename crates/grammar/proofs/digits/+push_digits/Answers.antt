@@ -10,20 +10,20 @@ push-requires t c = let l = ap length (numeral-digit c.args.base c.requires.0 c.
 pub returns-then-n-base : goal.returns-then-n-base
 returns-then-n-base t c = record {
   bytes = c.push.ensures.bytes
-      ∙ ap (λ (d : List ℕ). bytes_of c.args.text.now ++ d) (ap (λ x. x ∷ []) c.digit-char.ensures.value ∙ sym (numeral-digit c.args.base c.requires.0 c.requires.1.0 c.args.n c.if-n-base.true));
+      ∙ ap (λ (d : List ℕ). bytes_of c.args.text.now ++ d) (ap (λ x. x ∷ []) c.digit_char.ensures.value ∙ sym (numeral-digit c.args.base c.requires.0 c.requires.1.0 c.args.n c.if-n-base.true));
 }
 
-pub push-digits-requires : goal.push-digits-requires
-push-digits-requires t c = let l = numeral-longer c.args.base c.requires.0 c.requires.1.0 c.args.n c.if-n-base.false in (search rules, (c.requires.0, (c.requires.1.0, omega (arith, c.requires.1.1))))
+pub push_digits-requires : goal.push_digits-requires
+push_digits-requires t c = let l = numeral-longer c.args.base c.requires.0 c.requires.1.0 c.args.n c.if-n-base.false in (search rules, (c.requires.0, (c.requires.1.0, omega (arith, c.requires.1.1))))
 
 pub push-requires-2 : goal.push-requires-2
 push-requires-2 t c =
     let l = numeral-longer c.args.base c.requires.0 c.requires.1.0 c.args.n c.if-n-base.false in
-    omega (arith, c.requires.1.1, ap length c.push-digits.ensures.bytes, length-append (bytes_of c.args.text.now) (numeral c.args.base (c.args.n / c.args.base)))
+    omega (arith, c.requires.1.1, ap length c.push_digits.ensures.bytes, length-append (bytes_of c.args.text.now) (numeral c.args.base (c.args.n / c.args.base)))
 
 pub returns : goal.returns
 returns t c = record {
-  bytes = c.push-2.ensures.bytes ∙ (λ i. c.push-digits.ensures.bytes i ++ (c.digit-char-2.ensures.value i ∷ []))
+  bytes = c.push-2.ensures.bytes ∙ (λ i. c.push_digits.ensures.bytes i ++ (c.digit_char-2.ensures.value i ∷ []))
       ∙ append_assoc (bytes_of c.args.text.now) (numeral c.args.base (c.args.n / c.args.base)) (digit_char (c.args.n % c.args.base) ∷ [])
       ∙ ap (λ (d : List ℕ). bytes_of c.args.text.now ++ d) (sym (numeral-step c.args.base c.requires.0 c.requires.1.0 c.args.n c.if-n-base.false));
 }

@@ -6,8 +6,8 @@ use Rattle.std.proofs.lemmas.List.{take_all, length-take-le}
 use Rattle.grammar.proofs.Radix.{not-read, no_digit, read, room, reads-exactly}
 use Rattle.grammar.proofs.digits.read_digits.Goals as goal
 
-pub returns-then-is-empty : goal.returns-then-is-empty
-returns-then-is-empty c = record {
+pub returns-then-is_empty : goal.returns-then-is_empty
+returns-then-is_empty c = record {
   value = not-read c.args.base c.args.most c.args.text.now (λ n r. let some = r.some in let none : length c.args.text.now ≡ 0 = search rules in omega arith);
   bound = tt;
   exact = reads-exactly c.args.base c.args.most c.args.text.now;
@@ -40,11 +40,11 @@ module _ (c : goal.In-Some) where
       let r = room c.args.base (take (c.loop-c.c-index + 1) c.args.text.now) c.args.most (omega (arith, c.requires.0)) more (omega (arith, c.if-text-most.false)) in
       omega (arith, size, c.requires.1)
 
-pub overflow-mul-n : goal.overflow-mul-n
-overflow-mul-n c = let f = fits c in omega arith
+pub overflow_mul-n : goal.overflow_mul-n
+overflow_mul-n c = let f = fits c in omega arith
 
-pub overflow-add-n : goal.overflow-add-n
-overflow-add-n c = let f = fits c in omega arith
+pub overflow_add-n : goal.overflow_add-n
+overflow_add-n c = let f = fits c in omega arith
 
 pub returns-in-None : goal.returns-in-None
 returns-in-None c = record {

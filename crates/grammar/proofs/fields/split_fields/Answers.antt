@@ -7,12 +7,12 @@ use Rattle.grammar.proofs.fields.split_fields.Goals as goal
 pub returns : goal.returns
 returns c =
     let line : List ℕ = c.args.line.now in
-    let one : fields_after c.split-first.result.1 ≡ drop 1 (fields line) = ap (drop 1) (sym c.split-first.ensures.value) in
-    let two : fields_after c.split-next.result.1 ≡ drop 2 (fields line) = c.split-next.ensures.others ∙ ap (drop 1) one ∙ drop-drop 1 1 (fields line) in
+    let one : fields_after c.split_first.result.1 ≡ drop 1 (fields line) = ap (drop 1) (sym c.split_first.ensures.value) in
+    let two : fields_after c.split_next.result.1 ≡ drop 2 (fields line) = c.split_next.ensures.others ∙ ap (drop 1) one ∙ drop-drop 1 1 (fields line) in
     record {
-      first = ap (field 0) (sym c.split-first.ensures.value);
-      second = c.split-next.ensures.first ∙ field-after 1 (fields line) _ one;
-      third = c.split-next-2.ensures.first ∙ field-after 2 (fields line) _ two;
-      len = c.count-fields.ensures.value;
+      first = ap (field 0) (sym c.split_first.ensures.value);
+      second = c.split_next.ensures.first ∙ field-after 1 (fields line) _ one;
+      third = c.split_next-2.ensures.first ∙ field-after 2 (fields line) _ two;
+      len = c.count_fields.ensures.value;
       exact = fields-exactly line;
     }

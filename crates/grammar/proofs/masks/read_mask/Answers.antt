@@ -10,6 +10,6 @@ returns c =
     let first : get_or c.args.text.now 0 0 ≡ 48 = search rules in
     let second : (get_or c.args.text.now 1 0 ≡ 120) ⊎ (get_or c.args.text.now 1 0 ≡ 88) = search rules in
     record {
-      value = c.read-digits.ensures.value ∙ ap (numeral_of 16 8) (take_rest c.args.text.now 2) ∙ mask_at c.args.text.now long first second;
+      value = c.read_digits.ensures.value ∙ ap (numeral_of 16 8) (take_rest c.args.text.now 2) ∙ mask_at c.args.text.now long first second;
       exact = mask-exactly c.args.text.now;
     }

@@ -15,13 +15,13 @@ overflow-add-n c =
     let xs = c.args.slots.now in
     let long = slots-39 xs c.requires in
     let all : c.loop-i.n ≤ 508 = omega (arith, contents-part c.loop-i.i (values_in xs), image-508 xs c.requires, encoded-length (values_in xs), length-map xs stored_of, c.loop-i.invariant) in
-    search (arith, all, c.size-of-n.ensures.bound)
+    search (arith, all, c.size_of-n.ensures.bound)
 
 pub loop-i-preserved : goal.loop-i-preserved
 loop-i-preserved c =
     let xs = c.args.slots.now in
     let long = slots-39 xs c.requires in
-    omega (arith, length_more xs c.loop-i.i c.index-slots-i.result (omega arith), c.loop-i.invariant, c.size-of-n.ensures.value, ap (λ (s : Stored). length (content (stored_of s))) c.index-slots-i.is)
+    omega (arith, length_more xs c.loop-i.i c.index-slots-i.result (omega arith), c.loop-i.invariant, c.size_of-n.ensures.value, ap (λ (s : Stored). length (content (stored_of s))) c.index-slots-i.is)
 
 pub returns : goal.returns
 returns c =

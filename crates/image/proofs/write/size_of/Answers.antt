@@ -9,7 +9,7 @@ use Rattle.image.proofs.write.size_of.Goals as goal
 pub returns-in-Text : goal.returns-in-Text
 returns-in-Text c =
     let t = c.in-Text.text in
-    let e = c.as-bytes.ensures.value in
+    let e = c.as_bytes.ensures.value in
     record {
       value = ap length e ∙ sym (ap length (content-spoken (bytes_of t))) ∙ sym (ap (λ (s : Stored). length (content (stored_of s))) c.in-Text.is);
       bound = omega (arith, ap length e, length-take t.len t.bytes, t.short);

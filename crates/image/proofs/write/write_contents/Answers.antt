@@ -9,8 +9,8 @@ use Rattle.cells.specs.Sorts.{slots-39}
 use Rattle.image.proofs.Writing.{length_more, contents-again, contents-part, all-values}
 use Rattle.image.proofs.write.write_contents.Goals as goal
 
-pub write-stored-requires : goal.write-stored-requires
-write-stored-requires g c =
+pub write_stored-requires : goal.write_stored-requires
+write_stored-requires g c =
     let xs = c.args.slots.now in
     let long = slots-39 xs c.requires.kind in
     let l : c.loop-i.i < length xs = omega (arith, long, c.loop-i-test.true) in
@@ -21,8 +21,8 @@ loop-i-preserved g c =
     let xs = c.args.slots.now in
     let long = slots-39 xs c.requires.kind in
     let l : c.loop-i.i < length xs = omega (arith, long, c.loop-i-test.true) in (
-      contents-again xs c.loop-i.i c.index-slots-i.result l _ _ _ (c.write-stored.ensures.written ∙ ap (λ (s : Stored). g.S.Sink.written c.loop-i.out ++ content (stored_of s)) c.index-slots-i.is) c.loop-i.invariant.0,
-      c.write-stored.ensures.room ∙ c.loop-i.invariant.1,
+      contents-again xs c.loop-i.i c.index-slots-i.result l _ _ _ (c.write_stored.ensures.written ∙ ap (λ (s : Stored). g.S.Sink.written c.loop-i.out ++ content (stored_of s)) c.index-slots-i.is) c.loop-i.invariant.0,
+      c.write_stored.ensures.room ∙ c.loop-i.invariant.1,
     )
 
 pub returns : goal.returns

@@ -7,8 +7,8 @@ use Rattle.cells.specs.Sorts.{slots-39}
 use Rattle.image.specs.Format.{encoded-length, directory-length}
 use Rattle.image.proofs.write.write_image.Goals as goal
 
-pub write-pairs-requires : goal.write-pairs-requires
-write-pairs-requires g c =
+pub write_pairs-requires : goal.write_pairs-requires
+write_pairs-requires g c =
     let xs = c.args.slots.now in
     record {
       kind = c.requires.kind;
@@ -16,12 +16,12 @@ write-pairs-requires g c =
       space = omega (arith, c.requires.space, encoded-length (values_in xs), length-map xs stored_of, slots-39 xs c.requires.kind);
     }
 
-pub write-contents-requires : goal.write-contents-requires
-write-contents-requires g c =
+pub write_contents-requires : goal.write_contents-requires
+write_contents-requires g c =
     let xs = c.args.slots.now in
     record {
       kind = c.requires.kind;
-      space = omega (arith, c.requires.space, encoded-length (values_in xs), ap length c.write-pairs.ensures.written, directory-length 156 (values_in xs), c.write-pairs.ensures.room);
+      space = omega (arith, c.requires.space, encoded-length (values_in xs), ap length c.write_pairs.ensures.written, directory-length 156 (values_in xs), c.write_pairs.ensures.room);
     }
 
 pub returns : goal.returns
@@ -29,6 +29,6 @@ returns g c =
     let xs = c.args.slots.now in
     let n : 156 ≡ 4 * length (values_in xs) = omega (arith, length-map xs stored_of, slots-39 xs c.requires.kind) in
     record {
-      written = c.write-contents.ensures.written ∙ ap (λ (x : List ℕ). x ++ contents (values_in xs)) c.write-pairs.ensures.written ∙ ap (λ (m : ℕ). directory m (values_in xs) ++ contents (values_in xs)) n;
-      room = c.write-contents.ensures.room ∙ c.write-pairs.ensures.room;
+      written = c.write_contents.ensures.written ∙ ap (λ (x : List ℕ). x ++ contents (values_in xs)) c.write_pairs.ensures.written ∙ ap (λ (m : ℕ). directory m (values_in xs) ++ contents (values_in xs)) n;
+      room = c.write_contents.ensures.room ∙ c.write_pairs.ensures.room;
     }

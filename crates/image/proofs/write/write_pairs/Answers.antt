@@ -8,14 +8,14 @@ use Rattle.image.specs.Format.{directory-length}
 use Rattle.image.proofs.Writing.{length_more, pairs-again, all-values, part-508}
 use Rattle.image.proofs.write.write_pairs.Goals as goal
 
-pub write-pair-requires : goal.write-pair-requires
-write-pair-requires g c =
+pub write_pair-requires : goal.write_pair-requires
+write_pair-requires g c =
     let xs = c.args.slots.now in
     let part = part-508 xs c.loop-i.i c.requires.kind in
     let long = slots-39 xs c.requires.kind in
     record {
       at = omega (arith, part, c.loop-i.invariant.1);
-      size = omega (arith, c.size-of-size.ensures.bound);
+      size = omega (arith, c.size_of-size.ensures.bound);
       space = omega (arith, ap length c.loop-i.invariant.0, directory-length 156 (take c.loop-i.i (values_in xs)), length-take c.loop-i.i (values_in xs), c.loop-i.invariant.2, c.requires.space, long, c.loop-i-test.true);
     }
 
@@ -23,16 +23,16 @@ pub overflow-add-at : goal.overflow-add-at
 overflow-add-at g c =
     let part = part-508 c.args.slots.now c.loop-i.i c.requires.kind in
     let all : c.loop-i.at ≤ 508 = omega (arith, part, c.loop-i.invariant.1) in
-    search (arith, all, c.size-of-size.ensures.bound)
+    search (arith, all, c.size_of-size.ensures.bound)
 
 pub loop-i-preserved : goal.loop-i-preserved
 loop-i-preserved g c =
     let xs = c.args.slots.now in
     let long = slots-39 xs c.requires.kind in
     let l : c.loop-i.i < length xs = omega (arith, long, c.loop-i-test.true) in (
-      pairs-again xs c.loop-i.i c.index-slots-i.result l 156 _ _ _ _ c.write-pair.ensures.written c.loop-i.invariant.0 c.loop-i.invariant.1 (c.size-of-size.ensures.value ∙ ap (λ (s : Stored). length (content (stored_of s))) c.index-slots-i.is),
-      omega (arith, length_more xs c.loop-i.i c.index-slots-i.result l, c.loop-i.invariant.1, c.size-of-size.ensures.value, ap (λ (s : Stored). length (content (stored_of s))) c.index-slots-i.is),
-      c.write-pair.ensures.room ∙ c.loop-i.invariant.2,
+      pairs-again xs c.loop-i.i c.index-slots-i.result l 156 _ _ _ _ c.write_pair.ensures.written c.loop-i.invariant.0 c.loop-i.invariant.1 (c.size_of-size.ensures.value ∙ ap (λ (s : Stored). length (content (stored_of s))) c.index-slots-i.is),
+      omega (arith, length_more xs c.loop-i.i c.index-slots-i.result l, c.loop-i.invariant.1, c.size_of-size.ensures.value, ap (λ (s : Stored). length (content (stored_of s))) c.index-slots-i.is),
+      c.write_pair.ensures.room ∙ c.loop-i.invariant.2,
     )
 
 pub returns : goal.returns

@@ -10,32 +10,32 @@ use Rattle.judging.proofs.judgement.judge.Goals as goal
 never_both : {X : Type 0} (o : Option LineRefusal) (n : LineRefusal) → o ≡ None → o ≡ Some n → X
 never_both o n e d = absurd (grind arith)
 
-pub returns-in-err-request : goal.returns-in-err-request
-returns-in-err-request c =
+pub returns-in_err-request : goal.returns-in_err-request
+returns-in_err-request c =
     let facts : Facts = facts_of c.args.c.now in
     let bytes : List ℕ = c.args.line.now in
-    let h = c.in-err-request.ensures.cases in
+    let h = c.in_err-request.ensures.cases in
     let p = err_from_is_err_and c.from-residual.result c.from-residual.ensures.1 in
     rw (p.1, p.2) (record { cases = by-line facts bytes _ h; order = in_order facts bytes (λ e. never_both _ _ e h) })
 
-pub returns-in-err-decide : goal.returns-in-err-decide
-returns-in-err-decide c =
+pub returns-in_err-decide : goal.returns-in_err-decide
+returns-in_err-decide c =
     let facts : Facts = facts_of c.args.c.now in
     let bytes : List ℕ = c.args.line.now in
-    let h = c.in-ok-request.ensures.cases in
-    let p = err_from_is_err_and c.from-residual-in-err-decide.result c.from-residual-in-err-decide.ensures.1 in
+    let h = c.in_ok-request.ensures.cases in
+    let p = err_from_is_err_and c.from-residual-in_err-decide.result c.from-residual-in_err-decide.ensures.1 in
     rw (p.1, p.2)
     (record {
-      cases = by-request facts bytes (request_of c.in-ok-request.request) h.0 h.1 ∙ c.in-err-decide.ensures.cases;
-      order = in_order facts bytes (λ e. (request_of c.in-ok-request.request, h.1));
+      cases = by-request facts bytes (request_of c.in_ok-request.request) h.0 h.1 ∙ c.in_err-decide.ensures.cases;
+      order = in_order facts bytes (λ e. (request_of c.in_ok-request.request, h.1));
     })
 
 pub returns : goal.returns
 returns c =
     let facts : Facts = facts_of c.args.c.now in
     let bytes : List ℕ = c.args.line.now in
-    let h = c.in-ok-request.ensures.cases in
+    let h = c.in_ok-request.ensures.cases in
     record {
-      cases = (by-request facts bytes (request_of c.in-ok-request.request) h.0 h.1 ∙ c.in-ok-decide.ensures.cases, h.1);
-      order = in_order facts bytes (λ e. (request_of c.in-ok-request.request, h.1));
+      cases = (by-request facts bytes (request_of c.in_ok-request.request) h.0 h.1 ∙ c.in_ok-decide.ensures.cases, h.1);
+      order = in_order facts bytes (λ e. (request_of c.in_ok-request.request, h.1));
     }

@@ -24,18 +24,18 @@ returns-in-Ok c =
     let f : List ℕ = c.args.second.now in
     let g : List ℕ = c.args.third.now in
     let e = sym c.in-Some.ensures.value in
-    let d = sym c.in-Some-find-cell.ensures.value in
+    let d = sym c.in-Some-find_cell.ensures.value in
     let h = c.in-Ok.ensures.cases in
     record {
       cases = (
-        by_value f g c.in-Some.index c.in-Some-find-cell.cell e d ∙ h.0,
-        ap (λ (o : Option Cell). write_asked o g) (found f c.in-Some.index c.in-Some-find-cell.cell e d)
-            ∙ ap (written c.in-Some-find-cell.cell) h.1,
+        by_value f g c.in-Some.index c.in-Some-find_cell.cell e d ∙ h.0,
+        ap (λ (o : Option Cell). write_asked o g) (found f c.in-Some.index c.in-Some-find_cell.cell e d)
+            ∙ ap (written c.in-Some-find_cell.cell) h.1,
       );
     }
 
 pub returns-in-Err : goal.returns-in-Err
 returns-in-Err c =
     let e = sym c.in-Some.ensures.value in
-    let d = sym c.in-Some-find-cell.ensures.value in
-    record { cases = by_value c.args.second.now c.args.third.now c.in-Some.index c.in-Some-find-cell.cell e d ∙ c.in-Err.ensures.cases }
+    let d = sym c.in-Some-find_cell.ensures.value in
+    record { cases = by_value c.args.second.now c.args.third.now c.in-Some.index c.in-Some-find_cell.cell e d ∙ c.in-Err.ensures.cases }

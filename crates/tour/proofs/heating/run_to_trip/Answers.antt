@@ -9,5 +9,5 @@ loop-n-preserved c =
     let m : Meaning = magnet_meaning c.args.magnet.now in
     let e = c.loop-n.invariant.0 in (
       run_more m (magnet_meaning c.loop-n.magnet) _ c.loop-n.n _ e c.advance.ensures.after c.advance.ensures.step,
-      below_more (λ (k : ℕ). heat_line (moved_by k (goal' m) m.readings.current) ≡ 0) c.loop-n.n c.loop-n.invariant.1 (sym (ap (λ (x : Meaning). x.readings.lines) e) ∙ sym c.live-lines.ensures.value ∙ c.if-live-lines-ne0.false),
+      below_more (λ (k : ℕ). heat_line (moved_by k (goal' m) m.readings.current) ≡ 0) c.loop-n.n c.loop-n.invariant.1 (sym (ap (λ (x : Meaning). x.readings.lines) e) ∙ sym c.live_lines.ensures.value ∙ c.if-live_lines-ne0.false),
     )

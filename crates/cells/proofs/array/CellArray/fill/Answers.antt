@@ -7,10 +7,10 @@ use Rattle.cells.specs.declared.roles.Kind.{Kind}
 use Rattle.cells.specs.Sorts.{kinded-fill}
 use Rattle.cells.proofs.array.CellArray.fill.Goals as goal
 
-pub invariant-of-self : goal.invariant-of-self
-invariant-of-self c =
+pub invariant_of-self : goal.invariant_of-self
+invariant_of-self c =
     let fit = ap (λ (k : Kind). fits k (stored_of c.args.value)) (sym c.in-Some.ensures.cases.1) ∙ sym c.if-not-fits.ensures.value in
-    (kinded-fill c.args.self.now.slots c.args.at c.args.value c.args.self.now.kinded c.in-Some.ensures.cases.0 fit, tt)
+    record { kinded = kinded-fill c.args.self.now.slots c.args.at c.args.value c.args.self.now.kinded c.in-Some.ensures.cases.0 fit }
 
 pub returns : goal.returns
 returns c =

@@ -1,4 +1,4 @@
 use Rattle.grammar.proofs.numbers.print.+push_places.Given as goal
 
-abbrev pub decreases-push-places : goal.decreases-push-places
-decreases-push-places l = l.k
+abbrev pub decreases-push_places : goal.decreases-push_places
+decreases-push_places l = l.k

@@ -11,17 +11,17 @@ returns-then-k-eq0 t c = record {
       ∙ ap (λ (ds : List ℕ). bytes_of c.args.text.now ++ pointed ds) (sym (trim-none c.args.n) ∙ ap (λ k. trimmed k c.args.n) (sym c.if-k-eq0.true));
 }
 
-pub returns-then-ends-in-zero : goal.returns-then-ends-in-zero
-returns-then-ends-in-zero t c = record {
-  bytes = c.push-trimmed.ensures.bytes ∙ ap (λ (ds : List ℕ). bytes_of c.args.text.now ++ pointed ds) (trim-step c.args.k c.args.n c.if-k-eq0.false (eqb-true _ _ (sym c.if-ends-in-zero.ensures.value)));
+pub returns-then-ends_in_zero : goal.returns-then-ends_in_zero
+returns-then-ends_in_zero t c = record {
+  bytes = c.push_trimmed.ensures.bytes ∙ ap (λ (ds : List ℕ). bytes_of c.args.text.now ++ pointed ds) (trim-step c.args.k c.args.n c.if-k-eq0.false (eqb-true _ _ (sym c.if-ends_in_zero.ensures.value)));
 }
 
-pub push-places-requires : goal.push-places-requires
-push-places-requires t c = omega (arith, ap length c.push.ensures.bytes, length-append (bytes_of c.args.text.now) (46 ∷ []), c.requires)
+pub push_places-requires : goal.push_places-requires
+push_places-requires t c = omega (arith, ap length c.push.ensures.bytes, length-append (bytes_of c.args.text.now) (46 ∷ []), c.requires)
 
 pub returns : goal.returns
 returns t c = record {
-  bytes = c.push-places.ensures.bytes ∙ ap (λ (d : List ℕ). d ++ places c.args.k c.args.n) c.push.ensures.bytes
+  bytes = c.push_places.ensures.bytes ∙ ap (λ (d : List ℕ). d ++ places c.args.k c.args.n) c.push.ensures.bytes
       ∙ append_assoc (bytes_of c.args.text.now) (46 ∷ []) (places c.args.k c.args.n)
-      ∙ ap (λ (d : List ℕ). bytes_of c.args.text.now ++ d) (trim_end c.args.k c.args.n c.if-k-eq0.false (eqb-false _ _ (sym c.if-ends-in-zero.ensures.value)));
+      ∙ ap (λ (d : List ℕ). bytes_of c.args.text.now ++ d) (trim_end c.args.k c.args.n c.if-k-eq0.false (eqb-false _ _ (sym c.if-ends_in_zero.ensures.value)));
 }

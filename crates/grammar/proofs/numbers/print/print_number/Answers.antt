@@ -15,17 +15,17 @@ sign-test (negsuc n) = refl
 code_same : (z v : ℤ) → SFits w64 z → z ≡ v → to_z w64 (of_z w64 z) ≡ v
 code_same z v f e = to_z-of_z w64 z f ∙ e
 
-pub print-parts-requires : goal.print-parts-requires
-print-parts-requires c =
+pub print_parts-requires : goal.print_parts-requires
+print_parts-requires c =
     let range = within c.args.q.millionths c.args.q.low c.args.q.high in
-    let size = c.unsigned-abs-size.ensures.value ∙ ap nat_abs (code_same _ c.args.q.millionths (search rules) c.millionths-v.ensures.value) in
+    let size = c.unsigned_abs-size.ensures.value ∙ ap nat_abs (code_same _ c.args.q.millionths (search rules) c.millionths-v.ensures.value) in
     (omega arith, omega arith)
 
 pub returns : goal.returns
 returns c =
     let range = within c.args.q.millionths c.args.q.low c.args.q.high in
     let same = code_same _ c.args.q.millionths (search rules) c.millionths-v.ensures.value in
-    let size = c.unsigned-abs-size.ensures.value ∙ ap nat_abs same in
+    let size = c.unsigned_abs-size.ensures.value ∙ ap nat_abs same in
     let sign = ap (λ z. lt_z z (pos 0)) same ∙ sign-test c.args.q.millionths in
-    let value = c.print-parts.ensures.value ∙ (λ t. sign_text (sign t) ++ (numeral 10 (size t / 1000000) ++ pointed (shown (size t % 1000000)))) in
+    let value = c.print_parts.ensures.value ∙ (λ t. sign_text (sign t) ++ (numeral 10 (size t / 1000000) ++ pointed (shown (size t % 1000000)))) in
     record { value = value; bound = omega (arith, ap length value, printed-short c.args.q.millionths range); canonical = canonical c.args.q.millionths range }

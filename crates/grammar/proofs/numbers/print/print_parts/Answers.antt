@@ -9,23 +9,23 @@ use Rattle.grammar.proofs.numbers.print.print_parts.Goals as goal
 whole-few : (n : ℕ) → n < 10 ^ 4 → length (numeral 10 n) ≤ 4
 whole-few n h = numeral-short 10 (omega arith) (omega arith) 4 n (omega arith) h
 
-pub push-digits-requires : goal.push-digits-requires
-push-digits-requires c =
+pub push_digits-requires : goal.push_digits-requires
+push_digits-requires c =
     let few = whole-few c.args.whole c.requires.0 in
     let l = length-append (bytes_of c.absent-text.result) (sign_text c.args.minus) in
-    (omega arith, (omega arith, omega (arith, ap length c.push-sign.ensures.bytes, ap length c.absent-text.ensures.value, sign-short c.args.minus)))
+    (omega arith, (omega arith, omega (arith, ap length c.push_sign.ensures.bytes, ap length c.absent-text.ensures.value, sign-short c.args.minus)))
 
-pub push-shown-requires : goal.push-shown-requires
-push-shown-requires c =
+pub push_shown-requires : goal.push_shown-requires
+push_shown-requires c =
     let few = whole-few c.args.whole c.requires.0 in
     let l = length-append (bytes_of c.absent-text.result) (sign_text c.args.minus) in
-    let m = length-append (bytes_of c.push-sign.new.text) (numeral 10 c.args.whole) in
-    omega (arith, ap length c.push-digits.ensures.bytes, ap length c.push-sign.ensures.bytes, ap length c.absent-text.ensures.value, sign-short c.args.minus)
+    let m = length-append (bytes_of c.push_sign.new.text) (numeral 10 c.args.whole) in
+    omega (arith, ap length c.push_digits.ensures.bytes, ap length c.push_sign.ensures.bytes, ap length c.absent-text.ensures.value, sign-short c.args.minus)
 
 pub returns : goal.returns
 returns c =
-    let sign : bytes_of c.push-sign.new.text ≡ sign_text c.args.minus = c.push-sign.ensures.bytes ∙ ap (λ (t : List ℕ). t ++ sign_text c.args.minus) c.absent-text.ensures.value in
+    let sign : bytes_of c.push_sign.new.text ≡ sign_text c.args.minus = c.push_sign.ensures.bytes ∙ ap (λ (t : List ℕ). t ++ sign_text c.args.minus) c.absent-text.ensures.value in
     record {
-      value = c.push-shown.ensures.bytes ∙ ap (λ (t : List ℕ). t ++ pointed (shown c.args.fraction)) (c.push-digits.ensures.bytes ∙ ap (λ (t : List ℕ). t ++ numeral 10 c.args.whole) sign)
+      value = c.push_shown.ensures.bytes ∙ ap (λ (t : List ℕ). t ++ pointed (shown c.args.fraction)) (c.push_digits.ensures.bytes ∙ ap (λ (t : List ℕ). t ++ numeral 10 c.args.whole) sign)
           ∙ append_assoc (sign_text c.args.minus) (numeral 10 c.args.whole) (pointed (shown c.args.fraction));
     }

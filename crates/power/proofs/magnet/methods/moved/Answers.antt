@@ -5,6 +5,6 @@ use Rattle.power.proofs.magnet.methods.moved.Goals as goal
 pub returns : goal.returns
 returns c = record {
   value = grind (arith, to_z-of_z);
-  low-bound = grind (arith, to_z-of_z, ints);
-  high-bound = grind (arith, to_z-of_z, ints);
+  low_bound = grind (arith, to_z-of_z, ints);
+  high_bound = grind (arith, to_z-of_z, ints);
 }

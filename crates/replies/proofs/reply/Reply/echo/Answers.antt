@@ -7,6 +7,6 @@ use Rattle.replies.proofs.reply.Reply.echo.Goals as goal
 pub returns : goal.returns
 returns c =
     record {
-      bytes = joined (text_of c.args.self.now) (name_of (asking c.args.question.now)) (tail_of c.args.question.now) (c.extend.ensures.bytes ∙ ap (λ (bs : List ℕ). text_of c.args.self.now ++ bs) (c.name.ensures.value ∙ ap name_of c.asking-command.ensures.value)) c.tail.ensures.bytes;
+      bytes = joined (text_of c.args.self.now) (name_of (asking c.args.question.now)) (tail_of c.args.question.now) (c.extend.ensures.bytes ∙ ap (λ (bs : List ℕ). text_of c.args.self.now ++ bs) (c.name.ensures.value ∙ ap name_of c.asking_command.ensures.value)) c.tail.ensures.bytes;
       bound = c.tail.ensures.bound;
     }

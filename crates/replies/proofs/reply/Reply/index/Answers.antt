@@ -7,6 +7,6 @@ use Rattle.replies.proofs.reply.Reply.index.Goals as goal
 pub returns : goal.returns
 returns c =
     record {
-      bytes = joined (text_of c.args.self.now) (58 ∷ []) (numeral 10 c.args.n) c.extend.ensures.bytes (c.extend-2.ensures.bytes ∙ ap (λ (bs : List ℕ). text_of c.extend.new.self ++ bs) (c.as-bytes.ensures.value ∙ c.print-count.ensures.value));
+      bytes = joined (text_of c.args.self.now) (58 ∷ []) (numeral 10 c.args.n) c.extend.ensures.bytes (c.extend-2.ensures.bytes ∙ ap (λ (bs : List ℕ). text_of c.extend.new.self ++ bs) (c.as_bytes.ensures.value ∙ c.print_count.ensures.value));
       bound = search rules;
     }

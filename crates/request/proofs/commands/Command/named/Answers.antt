@@ -9,16 +9,16 @@ pub loop-command-init : goal.loop-command-init
 unfolding command_of
 loop-command-init c = refl
 
-pub returns-then-same-word : goal.returns-then-same-word
-returns-then-same-word c =
+pub returns-then-same_word : goal.returns-then-same_word
+returns-then-same_word c =
     record {
-      value = sym (found commands Mon c.args.word.now c.loop-command.command-index c.loop-command-test.true (ap (same_word c.args.word.now) (sym c.name.ensures.value) ∙ sym c.if-same-word.ensures.value))
+      value = sym (found commands Mon c.args.word.now c.loop-command.command-index c.loop-command-test.true (ap (same_word c.args.word.now) (sym c.name.ensures.value) ∙ sym c.if-same_word.ensures.value))
           ∙ c.loop-command.invariant;
     }
 
 pub loop-command-preserved : goal.loop-command-preserved
 loop-command-preserved c =
-    sym (passed commands Mon c.args.word.now c.loop-command.command-index c.loop-command-test.true (ap (same_word c.args.word.now) (sym c.name.ensures.value) ∙ sym c.if-same-word.ensures.value))
+    sym (passed commands Mon c.args.word.now c.loop-command.command-index c.loop-command-test.true (ap (same_word c.args.word.now) (sym c.name.ensures.value) ∙ sym c.if-same_word.ensures.value))
     ∙ c.loop-command.invariant
 
 pub returns : goal.returns
