@@ -39,9 +39,9 @@ pub(crate) fn image_len(slots: &[Stored]) -> usize
 
 // Writes the bytes of a value.
 fn write_stored<S: Sink>(stored: &Stored, out: &mut S)
-    requires { length (written out.old) + length (content (stored_of stored.now)) ≤ room out.old }
-    ensures written { written out.new ≡ written out.old ++ content (stored_of stored.now) }
-    ensures room { room out.new ≡ room out.old }
+    requires { length (S.written out.old) + length (content (stored_of stored.now)) ≤ S.room out.old }
+    ensures written { S.written out.new ≡ S.written out.old ++ content (stored_of stored.now) }
+    ensures room { S.room out.new ≡ S.room out.old }
 {
     match stored {
         Stored::Absent => {}
@@ -55,9 +55,9 @@ fn write_stored<S: Sink>(stored: &Stored, out: &mut S)
 fn write_pair<S: Sink>(at: usize, size: usize, out: &mut S)
     requires at { at < 65536 }
     requires size { size < 65536 }
-    requires space { length (written out.old) + 4 ≤ room out.old }
-    ensures written { written out.new ≡ written out.old ++ (be16 at ++ be16 size) }
-    ensures room { room out.new ≡ room out.old }
+    requires space { length (S.written out.old) + 4 ≤ S.room out.old }
+    ensures written { S.written out.new ≡ S.written out.old ++ (be16 at ++ be16 size) }
+    ensures room { S.room out.new ≡ S.room out.old }
 {
     let [a, b] = (at as u16).to_be_bytes();
     let [c, d] = (size as u16).to_be_bytes();
@@ -67,10 +67,10 @@ fn write_pair<S: Sink>(at: usize, size: usize, out: &mut S)
 // Writes the pairs of the cells.
 fn write_pairs<S: Sink>(slots: &[Stored], out: &mut S)
     requires kind { kinded kinds (values_in slots.now) ≡ true }
-    requires empty { written out.old ≡ [] }
-    requires space { 156 ≤ room out.old }
-    ensures written { written out.new ≡ directory 156 (values_in slots.now) }
-    ensures room { room out.new ≡ room out.old }
+    requires empty { S.written out.old ≡ [] }
+    requires space { 156 ≤ S.room out.old }
+    ensures written { S.written out.new ≡ directory 156 (values_in slots.now) }
+    ensures room { S.room out.new ≡ S.room out.old }
 {
     let mut at = CONTENTS;
     for i in 0..slots.len() {
@@ -84,9 +84,9 @@ fn write_pairs<S: Sink>(slots: &[Stored], out: &mut S)
 // Writes the contents of the cells.
 fn write_contents<S: Sink>(slots: &[Stored], out: &mut S)
     requires kind { kinded kinds (values_in slots.now) ≡ true }
-    requires space { length (written out.old) + length (contents (values_in slots.now)) ≤ room out.old }
-    ensures written { written out.new ≡ written out.old ++ contents (values_in slots.now) }
-    ensures room { room out.new ≡ room out.old }
+    requires space { length (S.written out.old) + length (contents (values_in slots.now)) ≤ S.room out.old }
+    ensures written { S.written out.new ≡ S.written out.old ++ contents (values_in slots.now) }
+    ensures room { S.room out.new ≡ S.room out.old }
 {
     for i in 0..slots.len() {
         let slot = &slots[i];
@@ -97,10 +97,10 @@ fn write_contents<S: Sink>(slots: &[Stored], out: &mut S)
 // Writes the image.
 pub(crate) fn write_image<S: Sink>(slots: &[Stored], out: &mut S)
     requires kind { kinded kinds (values_in slots.now) ≡ true }
-    requires empty { written out.old ≡ [] }
-    requires space { length (encoded (values_in slots.now)) ≤ room out.old }
-    ensures written { written out.new ≡ encoded (values_in slots.now) }
-    ensures room { room out.new ≡ room out.old }
+    requires empty { S.written out.old ≡ [] }
+    requires space { length (encoded (values_in slots.now)) ≤ S.room out.old }
+    ensures written { S.written out.new ≡ encoded (values_in slots.now) }
+    ensures room { S.room out.new ≡ S.room out.old }
 {
     write_pairs(slots, out);
     write_contents(slots, out);

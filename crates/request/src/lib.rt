@@ -1,5 +1,7 @@
 // The commands, what a line asks, the circumstances on which it depends whether it is accepted, and the grounds of
 // refusal. Knows nothing of modules, stores or heads: what it needs of them comes in as plain facts.
+#![tactic(auto)]
+
 pub mod circumstances;
 pub mod commands;
 pub mod examples;

@@ -1,4 +1,6 @@
 // A tour of what stands so far, told in printed notes.
+#![tactic(auto)]
+
 mod heating;
 mod keeping;
 mod setpoints;

@@ -8,5 +8,5 @@ use Rattle.image.proofs.read.read_cells.Goals as goal
 pub returns : goal.returns
 returns c = record {
   value = c.decode.ensures.value;
-  exact = subst (λ (x : List Value). Means kinds c.args.bytes.now x) (sym c.decode.ensures.value) (cells-mean c.args.bytes.now (λ i. (c.type-inv.bytes i).fits));
+  exact = subst (λ (x : List Value). Means kinds c.args.bytes.now x) (sym c.decode.ensures.value) (cells-mean c.args.bytes.now (λ i. (c.type_inv.bytes i).fits));
 }

@@ -10,8 +10,8 @@ use Rattle.image.specs.Format.{encoded-length}
 use Rattle.image.proofs.Writing.{length_more, all-values, image-508, contents-part}
 use Rattle.image.proofs.write.image_len.Goals as goal
 
-pub overflow-add-n : goal.overflow-add-n
-overflow-add-n c =
+pub overflow_add-n : goal.overflow_add-n
+overflow_add-n c =
     let xs = c.args.slots.now in
     let long = slots-39 xs c.requires in
     let all : c.loop-i.n ≤ 508 = omega (arith, contents-part c.loop-i.i (values_in xs), image-508 xs c.requires, encoded-length (values_in xs), length-map xs stored_of, c.loop-i.invariant) in

@@ -19,8 +19,8 @@ write_pair-requires g c =
       space = omega (arith, ap length c.loop-i.invariant.0, directory-length 156 (take c.loop-i.i (values_in xs)), length-take c.loop-i.i (values_in xs), c.loop-i.invariant.2, c.requires.space, long, c.loop-i-test.true);
     }
 
-pub overflow-add-at : goal.overflow-add-at
-overflow-add-at g c =
+pub overflow_add-at : goal.overflow_add-at
+overflow_add-at g c =
     let part = part-508 c.args.slots.now c.loop-i.i c.requires.kind in
     let all : c.loop-i.at ≤ 508 = omega (arith, part, c.loop-i.invariant.1) in
     search (arith, all, c.size_of-size.ensures.bound)
