@@ -5,7 +5,7 @@ use Rattle.std.specs.Str.Parse.{AllDigits, digits_value}
 use Rattle.std.proofs.lemmas.Nat.{div-mul-add, mod-mul-add}
 use Rattle.std.proofs.lemmas.Int.Digits.{digits_value-lt}
 use Rattle.std.proofs.lemmas.Str.Parse.{digit_from_value}
-use Rattle.std.specs.List.{AllByRecursion as All}
+use Rattle.std.specs.List.{AllByRecursion}
 use Rattle.std.proofs.lemmas.Bool.{true≢false}
 use Rattle.grammar.specs.Numbers.{Parts, Lawful, Plain, Canonical, sign_text, pointed, signed, negative, size_of, value_of, spelled, printed_parts, printed, shown}
 use Rattle.std.proofs.lemmas.Int.{ints}
@@ -58,7 +58,7 @@ negative-some (pos n) e = absurd (true≢false (sym e))
 negative-some (negsuc n) e = omega arith
 
 -- decimal digits have no lower case
-decimal-upper : (ds : List ℕ) → AllDigits 10 ds → All (λ c. c < 97) ds
+decimal-upper : (ds : List ℕ) → AllDigits 10 ds → AllByRecursion (λ c. c < 97) ds
 decimal-upper [] d = tt
 decimal-upper (c ∷ cs) d = (let b = digit_from_value c d.0 in omega arith, decimal-upper cs d.1)
 

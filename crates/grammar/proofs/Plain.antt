@@ -1,6 +1,6 @@
 -- Texts. Assumes nothing.
 use Rattle.std.proofs.Common.{◌≡◌, ℕ, ◌<◌, Bool, true, false, ◌&&◌, leb, List, length, get_or, Decides, sym, refl, ⊎_elim, arith}
-use Rattle.std.specs.List.{AllByRecursion as All}
+use Rattle.std.specs.List.{AllByRecursion}
 use Rattle.std.proofs.ByRecursion.{All-get_or, Decides-by_and}
 use Rattle.std.proofs.lemmas.Bool.{and_parts, and_from, leb-true, le-leb, both_ways, cases_Bool, false≢true}
 use Rattle.std.proofs.lemmas.Bool.Decides.{nat_tests}
@@ -12,7 +12,7 @@ byte-decides c = (
   λ r. let p = r.printable in let q = r.no_colon in let s = r.no_question in grind (arith, nat_tests),
 )
 
-bytes_decides : (bs : List ℕ) → Decides (text_bytes bs) (All TextByte bs)
+bytes_decides : (bs : List ℕ) → Decides (text_bytes bs) (AllByRecursion TextByte bs)
 bytes_decides bs = Decides-by_and text_byte TextByte text_bytes byte-decides refl (λ _ _. refl) bs
 
 pub text-decides : (bs : List ℕ) → Decides (is_text bs) (IsText bs)

@@ -4,7 +4,7 @@ use native.Mathlib.Nat.{pow-le-pow_right, div-eq_of_lt}
 use Rattle.std.specs.Str.Parse.{AllDigits, digits_value}
 use Rattle.std.specs.Char.{digit_value}
 use Rattle.std.specs.Int.Digits.{digits_of, number_from_digits, number_from_digits_after, AllBelowBase}
-use Rattle.std.specs.List.{AllByRecursion as All}
+use Rattle.std.specs.List.{AllByRecursion}
 use Rattle.std.proofs.lemmas.Nat.{div-mul-add, mod-mul-add, le-div}
 use Rattle.std.proofs.lemmas.Int.Digits.{digits_of_step, length-digits_of-le, all_below_base_digits_of, first_digits_of, number_digits_of, number_after_ge, digits_value_is, digits_value-lt, all_below_base_from_digits}
 use Rattle.std.proofs.lemmas.List.{map_push, length_push, length-map, append-nil, nil_from_length, get_or-map}
@@ -109,7 +109,7 @@ module _ (b : ℕ) (lo : 2 ≤ b) (hi : b ≤ 36) where
   chars-values [] u = refl
   chars-values (x ∷ xs) u = λ t. char-value x (omega (arith, u.0)) t ∷ chars-values xs u.1 t
 
-  values-chars : (cs : List ℕ) → AllDigits b cs → All (λ c. c < 97) cs → map digit_char (map digit_value cs) ≡ cs
+  values-chars : (cs : List ℕ) → AllDigits b cs → AllByRecursion (λ c. c < 97) cs → map digit_char (map digit_value cs) ≡ cs
   values-chars [] d u = refl
   values-chars (c ∷ cs) d u = λ t. value-char c (omega (arith, d.0)) u.0 t ∷ values-chars cs d.1 u.1 t
 
@@ -117,7 +117,7 @@ module _ (b : ℕ) (lo : 2 ≤ b) (hi : b ≤ 36) where
   chars-digits [] u = tt
   chars-digits (x ∷ xs) u = (omega (arith, char-value x (omega (arith, u.0)), u.0), chars-digits xs u.1)
 
-  chars-upper : (xs : List ℕ) → AllBelowBase b xs → All (λ c. c < 97) (map digit_char xs)
+  chars-upper : (xs : List ℕ) → AllBelowBase b xs → AllByRecursion (λ c. c < 97) (map digit_char xs)
   chars-upper [] u = tt
   chars-upper (x ∷ xs) u = (char-upper x (omega (arith, u.0)), chars-upper xs u.1)
 
@@ -149,7 +149,7 @@ module _ (b : ℕ) (lo : 2 ≤ b) (hi : b ≤ 36) where
     digits = subst (AllDigits b) (sym (numeral-zero b)) (omega arith, tt);
     some = omega (arith, ap length (numeral-zero b));
     size = ap (digits_value b) (numeral-zero b) ∙ zero-value;
-    plain = record { upper = subst (All (λ c. c < 97)) (sym (numeral-zero b)) (omega arith, tt); no_leading = λ _. ap length (numeral-zero b) };
+    plain = record { upper = subst (AllByRecursion (λ c. c < 97)) (sym (numeral-zero b)) (omega arith, tt); no_leading = λ _. ap length (numeral-zero b) };
   }
     where
       zero-value : digits_value b (48 ∷ []) ≡ 0
@@ -165,7 +165,7 @@ module _ (b : ℕ) (lo : 2 ≤ b) (hi : b ≤ 36) where
         digits = subst (AllDigits b) (sym e) (chars-digits _ u);
         some = omega (arith, ap length e);
         size = ap (digits_value b) e ∙ digits_value_is b (map digit_char (digits_of b (suc n))) ∙ ap (number_from_digits b) (chars-values _ u) ∙ number_digits_of b (suc n) lo;
-        plain = record { upper = subst (All (λ c. c < 97)) (sym e) (chars-upper _ u); no_leading = λ z. absurd (first_char (get_or (digits_of b (suc n)) 0 0) f (sym g ∙ z)) };
+        plain = record { upper = subst (AllByRecursion (λ c. c < 97)) (sym e) (chars-upper _ u); no_leading = λ z. absurd (first_char (get_or (digits_of b (suc n)) 0 0) f (sym g ∙ z)) };
       }
 
   pub numeral-short : (k n : ℕ) → 1 ≤ k → n < b ^ k → length (numeral b n) ≤ k

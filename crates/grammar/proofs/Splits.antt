@@ -1,7 +1,7 @@
 -- The fields of a line: how they grow with its front, and that they alone make it up. Assumes nothing.
 use Rattle.std.proofs.Common.{◌≡◌, ℕ, zero, suc, ◌+◌, ◌<◌, ◌≤◌, Bool, true, false, cond, eqb, List, [], ◌∷◌, ◌++◌, length, get_or, take, drop, sym, refl, ap, ◌∙◌, subst, ⊎_elim, append_assoc, append-nil, arith, get_or-drop}
 use Rattle.std.specs.Str.Iter.{LacksByte}
-use Rattle.std.specs.List.{join_with_byte, AllByRecursion as All}
+use Rattle.std.specs.List.{join_with_byte, AllByRecursion}
 use Rattle.std.proofs.lemmas.Bool.{cases_eq, eq-eqb, ne_eqb, cond-true, cond-false}
 use Rattle.std.proofs.lemmas.List.{drop_more, take_more, drop_all, take_all}
 use Rattle.grammar.specs.Fields.{prepend, fields, field, SplitAtColons, ExactFields}
@@ -111,7 +111,7 @@ split (c ∷ cs) =
       no_colon = (λ k l e. omega arith, r.no_colon);
     }))
     (λ (t : c ≡ 58 → ⊥).
-    let all : All (LacksByte 58) (f.0 ∷ f.1) = subst (All (LacksByte 58)) f.2 r.no_colon in
+    let all : AllByRecursion (LacksByte 58) (f.0 ∷ f.1) = subst (AllByRecursion (LacksByte 58)) f.2 r.no_colon in
     subst (SplitAtColons (c ∷ cs)) (sym (at_other c cs t ∙ ap (prepend (c ∷ [])) f.2)) (record {
       some = omega arith;
       whole = join_front c f.0 f.1 ∙ ap (λ (x : List ℕ). c ∷ x) (ap (join_with_byte 58) (sym f.2) ∙ r.whole);
@@ -128,7 +128,7 @@ next_field : (f s : List ℕ) → LacksByte 58 f → fields (f ++ (58 ∷ s)) �
 next_field [] s h = at-colon 58 s refl
 next_field (c ∷ cs) s h = at_other c (cs ++ (58 ∷ s)) (λ e. h 0 (omega arith) e) ∙ ap (prepend (c ∷ [])) (next_field cs s (lacks_rest c cs h))
 
-rejoined-fields : (fs : List (List ℕ)) → 1 ≤ length fs → All (LacksByte 58) fs → fields (join_with_byte 58 fs) ≡ fs
+rejoined-fields : (fs : List (List ℕ)) → 1 ≤ length fs → AllByRecursion (LacksByte 58) fs → fields (join_with_byte 58 fs) ≡ fs
 rejoined-fields [] some h = absurd (omega arith)
 rejoined-fields (f ∷ []) some h = one_field f h.0
 rejoined-fields (f ∷ g ∷ gs) some h = next_field f (join_with_byte 58 (g ∷ gs)) h.0 ∙ ap (λ (x : List (List ℕ)). f ∷ x) (rejoined-fields (g ∷ gs) (omega arith) h.1)

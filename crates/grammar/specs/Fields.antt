@@ -2,7 +2,7 @@
 use Rattle.std.specs.Prelude.{◌≡◌, ℕ, ◌≤◌, cond, List, [], ◌∷◌, ◌++◌, length, Some, None, Option, ◌==◌, slice_index_or}
 use Rattle.std.specs.Borrow.{Bor}
 use Rattle.std.specs.Str.Iter.{LacksByte}
-use Rattle.std.specs.List.{join_with_byte, AllByRecursion as All}
+use Rattle.std.specs.List.{join_with_byte, AllByRecursion}
 
 -- a front put before the first field
 abbrev pub prepend : List ℕ → List (List ℕ) → List (List ℕ)
@@ -27,7 +27,7 @@ fields_after (Some rest) = fields rest.now
 pub record SplitAtColons (line : List ℕ) (fs : List (List ℕ)) : Type 0 where
   pub some : 1 ≤ length fs
   pub whole : join_with_byte 58 fs ≡ line
-  pub no_colon : All (LacksByte 58) fs
+  pub no_colon : AllByRecursion (LacksByte 58) fs
 
 -- the fields of a line are such, and there are no others
 pub record ExactFields (line : List ℕ) : Type 0 where

@@ -1,7 +1,7 @@
 -- Numbers: what a text of one is made of, what it reads as, and how a quantity is printed. Assumes nothing.
 use Rattle.std.specs.Prelude.{◌≡◌, ℕ, zero, suc, ◌+◌, ◌-◌, ◌*◌, ◌/◌, ◌%◌, ◌^◌, ◌<◌, ◌≤◌, Bool, true, false, cond, List, [], ◌∷◌, ◌++◌, length, take, ℤ, pos, negsuc, neg_ℤ, is_some, Some, None, Option, ◌==◌, ◌≢◌, nat_lt, slice_index_or, unsigned_abs}
 use Rattle.std.specs.Option.{option_map}
-use Rattle.std.specs.Str.Parse.{AllDigits, digits_value as value}
+use Rattle.std.specs.Str.Parse.{AllDigits, digits_value}
 use Rattle.std.specs.Char.{is_ascii_digit}
 use Rattle.grammar.specs.Numerals.{numeral}
 use Rattle.grammar.specs.declared.quantity.Quantity.{Quantity}
@@ -47,7 +47,7 @@ signed false n = pos n
 
 -- millionths: the digits as one number, times ten for each of the six decimals that is not written
 abbrev pub size_of : Parts → ℕ
-size_of p = value 10 (p.whole ++ p.fraction) * 10 ^ (6 - length p.fraction)
+size_of p = digits_value 10 (p.whole ++ p.fraction) * 10 ^ (6 - length p.fraction)
 
 abbrev pub value_of : Parts → ℤ
 value_of p = signed p.minus (size_of p)

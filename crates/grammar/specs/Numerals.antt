@@ -3,7 +3,7 @@ use Rattle.std.specs.Prelude.{◌≡◌, ℕ, ◌+◌, ◌<◌, ◌≤◌, Bool,
 use Rattle.std.specs.Str.Parse.{AllDigits, digits_value}
 use Rattle.std.specs.Char.{digit_value}
 use Rattle.std.specs.Int.Digits.{digits_of}
-use Rattle.std.specs.List.{AllByRecursion as All}
+use Rattle.std.specs.List.{AllByRecursion}
 
 -- THE RULE: one to so many digits of a base, and the number that they write
 pub record ReadsNumeral (base most : ℕ) (bs : List ℕ) (n : ℕ) : Type 0 where
@@ -36,7 +36,7 @@ numeral base n = cond (n == 0) (48 ∷ []) (map digit_char (digits_of base n))
 
 -- no lower-case digit, and no leading zero but in 0 itself
 pub record PlainNumeral (ds : List ℕ) : Type 0 where
-  pub upper : All (λ c. c < 97) ds
+  pub upper : AllByRecursion (λ c. c < 97) ds
   pub no_leading : slice_index_or ds 0 0 ≡ 48 → length ds ≡ 1
 
 -- the digits of n write n and are plain, and no other plain digits write n

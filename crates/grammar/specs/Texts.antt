@@ -1,7 +1,7 @@
 -- Texts: what a short text holds, and which bytes make a text that a person may type. Assumes nothing.
 use Rattle.std.specs.Prelude.{◌≡◌, ℕ, ◌≤◌, Bool, true, not, ◌&&◌, List, [], ◌∷◌, length, take, ◌==◌, nat_le}
 use Rattle.std.specs.Int.{IsInRange, is_in_range}
-use Rattle.std.specs.List.{AllByRecursion as All}
+use Rattle.std.specs.List.{AllByRecursion}
 use Rattle.grammar.specs.declared.text.Text.{Text}
 
 -- the bytes that a short text holds
@@ -18,7 +18,7 @@ pub record TextByte (c : ℕ) : Type 0 where
 pub record IsText (bs : List ℕ) : Type 0 where
   pub some : 1 ≤ length bs
   pub few : length bs ≤ 24
-  pub bytes : All TextByte bs
+  pub bytes : AllByRecursion TextByte bs
 
 -- the same, computed
 abbrev pub text_byte : ℕ → Bool

@@ -1,7 +1,7 @@
 -- What a power module means. Assumes nothing.
 use Rattle.std.specs.Prelude.{◌≡◌, ℕ, zero, suc, ◌≤◌, Bool, true, false, cond, not, ◌&&◌, List, length, ℤ, pos, ◌≤ℤ◌, bit_and, int_le, slice_index_or}
 use Rattle.grammar.specs.Range.{least, most}
-use Rattle.std.specs.List.{AllByRecursion as All}
+use Rattle.std.specs.List.{AllByRecursion}
 use Rattle.power.specs.declared.loops.Loop.{Loop}
 use Rattle.power.specs.declared.loops.Loop.TheVariants.{I, V}
 
@@ -55,7 +55,7 @@ pub record Lawful (sensors : ℕ) (m : Meaning) : Type 0 where
   pub current : Ranged m.readings.current
   pub voltage : Ranged m.readings.voltage
   pub sensed : length m.readings.temperatures ≡ sensors
-  pub temperatures : All Ranged m.readings.temperatures
+  pub temperatures : AllByRecursion Ranged m.readings.temperatures
   pub span_i : Span m.ratings.low_i m.ratings.high_i
   pub span_v : Span m.ratings.low_v m.ratings.high_v
 

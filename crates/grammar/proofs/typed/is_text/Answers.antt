@@ -1,5 +1,5 @@
 use Rattle.std.proofs.Common.{leb, length, get_or, sym, subst}
-use Rattle.std.specs.List.{AllByRecursion as All}
+use Rattle.std.specs.List.{AllByRecursion}
 use Rattle.std.proofs.ByRecursion.{All-more}
 use Rattle.std.proofs.lemmas.List.{take_all}
 use Rattle.std.proofs.lemmas.Bool.{and_parts, leb-true}
@@ -20,5 +20,5 @@ pub returns : goal.returns
 returns c =
     let e = take_all c.loop-c.c-index c.args.bytes.now c.loop-c-test.false in
     let fits = and_parts (leb 1 (length c.args.bytes.now)) (leb (length c.args.bytes.now) 24) (sym c.if-not-is_text_length.ensures.value) in
-    let r = accepted c.args.bytes.now (record { some = leb-true _ _ fits.0; few = leb-true _ _ fits.1; bytes = subst (All TextByte) e c.loop-c.invariant }) in
+    let r = accepted c.args.bytes.now (record { some = leb-true _ _ fits.0; few = leb-true _ _ fits.1; bytes = subst (AllByRecursion TextByte) e c.loop-c.invariant }) in
     record { value = r.value; exact = r.decides }
