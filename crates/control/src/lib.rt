@@ -1,4 +1,6 @@
 // Ramps, interlocks, trips and the status register: arithmetic on plain values.
+#![tactic(auto)]
+
 pub mod heat;
 pub mod ramp;
 pub mod status;

@@ -1,4 +1,6 @@
 // Lines as people type them: what each asks, or the ground on which it is refused.
+#![tactic(auto)]
+
 ghost use Rattle.std.specs.Prelude.{◌≡◌};
 ghost use Rattle.power.specs.Magnets.{magnet_meaning};
 ghost use Rattle.power.specs.Meaning.{low, high};

@@ -1,5 +1,7 @@
 // Plain words for people: what a request asks, and why a line is refused.
 // Programs print them. No contract says which words they are: the prover knows that each call is safe and returns.
+#![tactic(auto)]
+
 pub mod questions;
 pub mod reasons;
 pub mod requests;

@@ -1,4 +1,6 @@
 // From the bytes of a line to what it asks.
+#![tactic(auto)]
+
 pub mod lines;
 mod words;
 

@@ -1,4 +1,6 @@
 // The texts of replies, and a reply of at most 64 bytes that holds one.
+#![tactic(auto)]
+
 pub mod answers;
 pub mod reply;
 

@@ -1,8 +1,8 @@
 -- THE TABLE OF REFUSALS: on which ground a line is refused. Assumes nothing.
 use Rattle.std.specs.Prelude.{◌≡◌, ℕ, Bool, true, false, cond, not, ◌&&◌, ◌||◌, ltb, List, [], ◌∷◌, drop, ℤ, pos, is_some, Some, None, Ok, Err, codes, Option, Result, int_lt, nat_lt}
-use Rattle.request.specs.Bounds.{Bounds}
+use Rattle.request.specs.Bounds.{lawful_limit}
 use Rattle.cells.specs.Roles.{writer_of}
-use Rattle.cells.specs.Values.{Value, lawful}
+use Rattle.cells.specs.Values.{Value}
 use Rattle.cells.specs.declared.roles.Role.{Role}
 use Rattle.cells.specs.declared.roles.Writer.{Writer}
 use Rattle.cells.specs.declared.roles.Writer.TheVariants.{Nobody, Admin, User}
@@ -99,7 +99,7 @@ while_off c q = is_some (setpoint_of q) && not c.on
 abbrev pub outside_rating : Facts → Request → Bool
 outside_rating c q =
     that (setpoint_of q) (λ p. not (within c.rated p.0 p.1))
-    || that (cell_written q) (λ p. is_limit p.0 && not (lawful c.rated p.0 p.1))
+    || that (cell_written q) (λ p. is_limit p.0 && not (lawful_limit c.rated p.0 p.1))
 
 abbrev pub outside_limits : Facts → Request → Bool
 outside_limits c q = that (setpoint_of q) (λ p. not (within c.limits p.0 p.1))

@@ -15,7 +15,7 @@ returns-in_err-request c =
     let facts : Facts = facts_of c.args.c.now in
     let bytes : List ℕ = c.args.line.now in
     let h = c.in_err-request.ensures.cases in
-    let p = err_from_is_err_and c.from-residual.result c.from-residual.ensures.1 in
+    let p = err_from_is_err_and c.from_residual.result c.from_residual.ensures.1 in
     rw (p.1, p.2) (record { cases = by-line facts bytes _ h; order = in_order facts bytes (λ e. never_both _ _ e h) })
 
 pub returns-in_err-decide : goal.returns-in_err-decide
@@ -23,7 +23,7 @@ returns-in_err-decide c =
     let facts : Facts = facts_of c.args.c.now in
     let bytes : List ℕ = c.args.line.now in
     let h = c.in_ok-request.ensures.cases in
-    let p = err_from_is_err_and c.from-residual-in_err-decide.result c.from-residual-in_err-decide.ensures.1 in
+    let p = err_from_is_err_and c.from_residual-in_err-decide.result c.from_residual-in_err-decide.ensures.1 in
     rw (p.1, p.2)
     (record {
       cases = by-request facts bytes (request_of c.in_ok-request.request) h.0 h.1 ∙ c.in_err-decide.ensures.cases;
