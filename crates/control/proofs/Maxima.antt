@@ -1,5 +1,5 @@
 -- The greatest of some numbers. Assumes nothing.
-use Rattle.std.proofs.Common.{◌≡◌, ℕ, ◌<◌, Bool, true, false, cond, List, [], ◌∷◌, ◌++◌, length, ℤ, pos, fold, sym, refl, ap, ◌∙◌, ⊎_elim, arith, lit<}
+use Rattle.std.proofs.Common.{◌≡◌, Bool, true, false, cond, List, [], ◌∷◌, ℤ, fold, sym, refl, ap, ⊎_elim, arith}
 use lib.Signed.{lt_z}
 use Rattle.std.proofs.ByRecursion.{has_append_right, folded_max_z_bounds, folded_max_z_reached}
 use Rattle.std.specs.Int.{int_max}

@@ -1,5 +1,5 @@
 -- The hottest of some sensors. Assumes nothing.
-use Rattle.std.specs.Prelude.{◌≡◌, ℕ, ◌<◌, List, [], ◌∷◌, length, ℤ, pos, ◌≤ℤ◌, fold}
+use Rattle.std.specs.Prelude.{◌<◌, List, [], ◌∷◌, length, ℤ, pos, ◌≤ℤ◌, fold}
 use Rattle.std.specs.Int.{int_max}
 use Rattle.std.specs.List.{ContainsAt as Has, AllByRecursion}
 

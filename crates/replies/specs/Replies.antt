@@ -1,5 +1,5 @@
 -- The texts of replies. Assumes nothing.
-use Rattle.std.specs.Prelude.{ℕ, List, [], ◌∷◌, ◌++◌, take, ℤ, pos, codes}
+use Rattle.std.specs.Prelude.{ℕ, List, [], ◌∷◌, ◌++◌, take, ℤ, codes}
 use Rattle.cells.specs.Values.{Value, absent, number, mask, text}
 use Rattle.grammar.specs.Masks.{printed_mask}
 use Rattle.grammar.specs.Numbers.{printed}

@@ -1,5 +1,5 @@
 -- The law of the order of the grounds. Assumes nothing.
-use Rattle.std.proofs.Common.{◌≡◌, ℕ, Bool, true, false, cond, List, [], ◌∷◌, ◌++◌, Some, None, Option, sym, refl, ap, ◌∙◌, subst, arith}
+use Rattle.std.proofs.Common.{◌≡◌, ℕ, Bool, true, false, cond, List, [], ◌∷◌, ◌++◌, Some, None, refl, ap, ◌∙◌, arith}
 use Rattle.std.proofs.lemmas.Bool.{cond-true, cond-false}
 use Rattle.request.specs.Facts.{Facts}
 use Rattle.request.specs.Grounds.{Ground, of_line, of_request, grounds, holds, refusal_of, first_of, first_of_line, refusal, line_refusal}

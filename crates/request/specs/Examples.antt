@@ -1,7 +1,6 @@
 -- Examples: a line on every ground of the table, and every command read. Assumes nothing.
 use Rattle.std.specs.Prelude.{◌≡◌, ℕ, Bool, true, false, List, [], ◌∷◌, map, replicate, pos, negsuc, Some, None, codes, Option}
 use Prim.Native.String.{String}
-use Rattle.request.specs.Bounds.{Bounds}
 use Rattle.cells.specs.Values.{number, mask, text}
 use Rattle.cells.specs.declared.roles.Role.TheVariants.{Identification, HighI, InterlockEnable, Operator}
 use Rattle.power.specs.declared.loops.Loop.TheVariants.{I, V}

@@ -1,13 +1,11 @@
 -- THE TABLE OF REFUSALS: on which ground a line is refused. Assumes nothing.
-use Rattle.std.specs.Prelude.{◌≡◌, ℕ, Bool, true, false, cond, not, ◌&&◌, ◌||◌, ltb, List, [], ◌∷◌, drop, ℤ, pos, is_some, Some, None, Ok, Err, codes, Option, Result, int_lt, nat_lt}
+use Rattle.std.specs.Prelude.{◌≡◌, ℕ, Bool, true, false, cond, not, ◌&&◌, ◌||◌, ltb, List, [], ◌∷◌, drop, pos, is_some, Some, None, Ok, Err, codes, Option, Result, int_lt, nat_lt}
 use Rattle.request.specs.Bounds.{lawful_limit}
 use Rattle.cells.specs.Roles.{writer_of}
-use Rattle.cells.specs.Values.{Value}
 use Rattle.cells.specs.declared.roles.Role.{Role}
 use Rattle.cells.specs.declared.roles.Writer.{Writer}
 use Rattle.cells.specs.declared.roles.Writer.TheVariants.{Nobody, Admin, User}
 use Rattle.grammar.specs.Words.{same_word}
-use Rattle.power.specs.declared.loops.Loop.{Loop}
 use Rattle.request.specs.declared.commands.Command.{Command}
 use Rattle.request.specs.declared.refusals.LineRefusal.{LineRefusal}
 use Rattle.request.specs.declared.refusals.LineRefusal.TheVariants.{LongLine, NoCommand, FewFields, WrongField, NoSuch, NoNumber, PanelInRemote, SocketInLocal, NoMatch, NotAllowed, TripStanding, WhileOn, SameLoop, OtherLoop, WhileOff, OutsideRating, OutsideLimits, RateNotPositive, Unable}

@@ -1,5 +1,5 @@
 -- A line, and what it asks. Assumes nothing.
-use Rattle.std.specs.Prelude.{ℕ, Bool, cond, List, length, ℤ, Some, None, Option, nat_lt}
+use Rattle.std.specs.Prelude.{ℕ, cond, List, length, Some, None, Option, nat_lt}
 use Rattle.cells.specs.Roles.{kind_of}
 use Rattle.cells.specs.Values.{Value}
 use Rattle.grammar.specs.Fields.{fields, field}
@@ -12,7 +12,6 @@ use Rattle.request.specs.declared.commands.Command.TheVariants.{Mon, Moff, Mrese
 use Rattle.request.specs.declared.requests.Approach.{Approach}
 use Rattle.request.specs.declared.requests.Approach.TheVariants.{AtOnce, Ramp}
 use Rattle.request.specs.declared.requests.Cell.{Cell}
-use Rattle.request.specs.declared.requests.Question.{Question}
 use Rattle.request.specs.declared.requests.Question.TheVariants.{Status, PresentLoop, Target, Rate, Current, Voltage, Version, Identification, Access, Cell as OfCell, Hottest, SensorCount, Sensor}
 use Rattle.request.specs.Commands.{command_of}
 use Rattle.request.specs.Forms.{is_query, is_num, loop_named, index_of, cell_named, word_of, value_in}

@@ -1,4 +1,4 @@
-use Rattle.std.proofs.Common.{◌≡◌, ℕ, ◌<◌, ◌≤◌, List, [], ◌∷◌, map, length, get_or, ℤ, pos, fold, refl, ap, ◌∙◌, arith}
+use Rattle.std.proofs.Common.{◌≡◌, ◌<◌, ◌≤◌, List, [], ◌∷◌, map, length, get_or, ℤ, pos, fold, ap, ◌∙◌, arith}
 use Rattle.grammar.specs.Numbers.{millionths_of}
 use Rattle.grammar.specs.declared.quantity.Quantity.{Quantity}
 use Rattle.std.specs.Int.{int_max}

@@ -1,4 +1,4 @@
-use Rattle.std.proofs.Common.{◌≡◌, ℕ, ◌+◌, List, ◌∷◌, map, drop, ℤ, fold, sym, ap, ◌∙◌}
+use Rattle.std.proofs.Common.{ℕ, ◌+◌, List, ◌∷◌, map, drop, ℤ, fold, sym, ap, ◌∙◌}
 use Rattle.grammar.specs.Numbers.{millionths_of}
 use Rattle.grammar.specs.declared.quantity.Quantity.{Quantity}
 use Rattle.std.proofs.lemmas.List.{drop_more, drop_all}

@@ -1,4 +1,4 @@
-use Rattle.std.proofs.Common.{ℕ, ◌+◌, ◌/◌, ◌%◌, List, [], ◌∷◌, ◌++◌, length, sym, ap, ◌∙◌, append_assoc, arith, length-append, rules}
+use Rattle.std.proofs.Common.{ℕ, ◌/◌, ◌%◌, List, [], ◌∷◌, ◌++◌, length, sym, ap, ◌∙◌, append_assoc, arith, length-append, rules}
 use Rattle.grammar.specs.Numerals.{numeral, digit_char}
 use Rattle.grammar.specs.Texts.{bytes_of}
 use Rattle.grammar.proofs.Radix.{numeral-digit, numeral-step, numeral-longer}

@@ -1,9 +1,7 @@
 use Rattle.std.proofs.Common.{◌≡◌, ℕ, Bool, true, false, ◌||◌, List, Some, Option, sym, refl, ap, ◌∙◌}
-use Rattle.cells.specs.Roles.{kind_of}
-use Rattle.cells.specs.Values.{Value}
-use Rattle.request.specs.Forms.{index_of, cell_at, found_cell, cell_named, value_in}
+use Rattle.request.specs.Forms.{index_of, cell_at, found_cell, cell_named}
 use Rattle.request.specs.Grounds.{field_refusal, value_refusal}
-use Rattle.request.specs.Lines.{requested, written, write_asked}
+use Rattle.request.specs.Lines.{written, write_asked}
 use Rattle.request.specs.declared.commands.Command.TheVariants.{Mwg}
 use Rattle.request.specs.declared.requests.Cell.{Cell}
 use Rattle.reading.proofs.lines.read_cell_write.Goals as goal

@@ -1,8 +1,7 @@
-use Rattle.std.proofs.Common.{Option, ap}
+use Rattle.std.proofs.Common.{ap}
 use Rattle.cells.specs.declared.roles.Role.{Role}
 use Rattle.std.specs.Option.{option_map}
 use Rattle.request.specs.Forms.{cell_at}
-use Rattle.request.specs.declared.requests.Cell.{Cell}
 use Rattle.reading.proofs.words.find_cell.Goals as goal
 
 pub returns-in-Some : goal.returns-in-Some

@@ -1,4 +1,4 @@
-use Rattle.std.proofs.Common.{cond, Some, None, codes, sym, ap, ◌∙◌}
+use Rattle.std.proofs.Common.{sym, ◌∙◌}
 use Rattle.std.proofs.lemmas.Bool.{cond-true, cond-false}
 use Rattle.request.specs.Forms.{loop_named}
 use Rattle.reading.proofs.words.read_loop.Goals as goal

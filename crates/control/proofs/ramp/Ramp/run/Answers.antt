@@ -1,4 +1,4 @@
-use Rattle.std.proofs.Common.{◌≡◌, ℕ, ◌+◌, List, [], ◌∷◌, map, drop, ℤ, sym, ap, ◌∙◌, subst}
+use Rattle.std.proofs.Common.{◌≡◌, ℕ, ◌+◌, List, ◌∷◌, map, drop, ℤ, sym, ap, ◌∙◌, subst}
 use Rattle.grammar.specs.declared.quantity.Quantity.{Quantity}
 use Rattle.std.proofs.lemmas.List.{drop_more, drop_all}
 use Rattle.control.specs.Ramps.{Course, course_of, pace_in, ticked_by, position, total, Ramped}

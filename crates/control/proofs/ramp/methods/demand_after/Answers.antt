@@ -1,4 +1,4 @@
-use Rattle.std.proofs.Common.{◌≡◌, ℕ, ◌+◌, List, map, ℤ, sym, subst, zero-add}
+use Rattle.std.proofs.Common.{ℕ, ◌+◌, map, ℤ, sym, subst, zero-add}
 use Rattle.control.specs.Ramps.{Course, pace_in, total, Ramped}
 use Rattle.control.proofs.ramp.methods.demand_after.Goals as goal
 

@@ -1,4 +1,4 @@
-use Rattle.std.proofs.Common.{◌≡◌, true, false, sym, refl, ap, ◌∙◌}
+use Rattle.std.proofs.Common.{sym, refl, ap, ◌∙◌}
 use Rattle.grammar.specs.Words.{same_word}
 use Rattle.request.specs.Commands.{commands, command_of}
 use Rattle.request.specs.declared.commands.Command.TheVariants.{Mon}
