@@ -10,10 +10,10 @@ use Rattle.request.specs.declared.refusals.LineRefusal.{LineRefusal}
 
 module _ (c : Facts) (l : Line) where
   at_first : (b : Bool) (g : Ground) (gs : List Ground) (n : LineRefusal) → holds c l g ≡ b → cond b (Some (refusal_of g)) (first_of c l gs) ≡ Some n → (first_of c l gs ≡ Some n → First c l gs n) → First c l (g ∷ gs) n
-  at_first true g gs n e d k = record { before = []; ground = g; behind = gs; table = refl; refused = grind arith; stands = e; free = tt }
+  at_first true g gs n e d k = record { before = []; row = g; behind = gs; table = refl; refused = grind arith; stands = e; free = tt }
   at_first false g gs n e d k =
       let r : First c l gs n = k d in
-      record { before = g ∷ r.before; ground = r.ground; behind = r.behind; table = ap (λ (t : List Ground). g ∷ t) r.table; refused = r.refused; stands = r.stands; free = (e, r.free) }
+      record { before = g ∷ r.before; row = r.row; behind = r.behind; table = ap (λ (t : List Ground). g ∷ t) r.table; refused = r.refused; stands = r.stands; free = (e, r.free) }
 
   is-first : (gs : List Ground) (n : LineRefusal) → first_of c l gs ≡ Some n → First c l gs n
   is-first [] n e = absurd (grind arith)
@@ -38,7 +38,7 @@ module _ (c : Facts) (l : Line) where
 
   first_stops : (gs : List Ground) (n : LineRefusal) → First c l gs n → first_of c l gs ≡ Some n
   first_stops gs n f =
-      ap (first_of c l) f.table ∙ past f.before (f.ground ∷ f.behind) f.free ∙ cond-true _ _ _ f.stands ∙ ap Some f.refused
+      ap (first_of c l) f.table ∙ past f.before (f.row ∷ f.behind) f.free ∙ cond-true _ _ _ f.stands ∙ ap Some f.refused
 
   no_line : (gs : List Ground) → NoLineGround c l gs → first_of_line gs c.sensors l ≡ None
   no_line [] h = refl

@@ -192,12 +192,12 @@ further_refusal c q = first_of_request (drop 10 grounds) c q
 
 -- the value as f reads it, or the ground against it
 abbrev pub Reads : {X Y : Type 0} → (X → Y) → Option LineRefusal → Option Y → Result X LineRefusal → Type 0
-Reads f ground wanted (Ok x) = (ground ≡ None) × (wanted ≡ Some (f x))
-Reads f ground wanted (Err n) = ground ≡ Some n
+Reads f against wanted (Ok x) = (against ≡ None) × (wanted ≡ Some (f x))
+Reads f against wanted (Err n) = against ≡ Some n
 
 abbrev pub Admits : Option LineRefusal → Result (Unit {0}) LineRefusal → Type 0
-Admits ground (Ok u) = ground ≡ None
-Admits ground (Err n) = ground ≡ Some n
+Admits against (Ok u) = against ≡ None
+Admits against (Err n) = against ≡ Some n
 
 abbrev pub on_ground : Bool → LineRefusal → Option LineRefusal
 on_ground b n = cond b (Some n) None

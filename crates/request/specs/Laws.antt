@@ -20,11 +20,11 @@ NoLineGround c l (of_request n test ∷ gs) = NoLineGround c l gs
 -- n is the refusal of a ground among these that holds, and none before it does
 pub record First (c : Facts) (l : Line) (gs : List Ground) (n : LineRefusal) : Type 0 where
   pub before : List Ground
-  pub ground : Ground
+  pub row : Ground
   pub behind : List Ground
-  pub table : gs ≡ before ++ (ground ∷ behind)
-  pub refused : refusal_of ground ≡ n
-  pub stands : holds c l ground ≡ true
+  pub table : gs ≡ before ++ (row ∷ behind)
+  pub refused : refusal_of row ≡ n
+  pub stands : holds c l row ≡ true
   pub free : NoneHolds c l before
 
 -- a line is refused exactly so, and accepted exactly where no ground holds;
