@@ -3,7 +3,7 @@ ghost use Rattle.std.specs.Prelude.{◌≡◌, ℤ, pos, negsuc, ◌≤ℤ◌, i
 ghost use Rattle.std.specs.Int.{int_max, int_min};
 ghost use Rattle.power.specs.Magnets.{magnet_meaning, magnet_start, goal, moved, heat, readings_at, moved_by, Approaches};
 ghost use Rattle.power.specs.Meaning.{advanced};
-ghost use Rattle.std.proofs.Common.{rules, arith};
+ghost use Rattle.std.proofs.Common.{rules};
 
 use super::Magnet;
 use crate::loops::Loop;
@@ -88,9 +88,9 @@ impl PowerModule for Magnet {
 
     ghost sensors = { 1 };
 
-    ghost counted = { first_of (Prim.search rules, Prim.grind (arith, Self.row.coded.inj)) };
+    ghost counted = { Prim.search rules };
 
-    ghost lawful = { first_of (Prim.search rules, Prim.grind (arith, Self.row.coded.inj)) };
+    ghost lawful = { Prim.search rules };
 
     fn sensor_count() -> u8 {
         Self::SENSORS

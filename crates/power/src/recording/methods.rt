@@ -2,7 +2,7 @@
 ghost use Rattle.std.specs.Prelude.{◌≡◌, ℕ, ◌∷◌, get_or, pos, slice_index_or, refl};
 ghost use Rattle.power.specs.Meaning.{advanced, temperature_at};
 ghost use Rattle.power.specs.Recordings.{readings_of, shown_of, records_of, place_of, place_after, recording_meaning, recording_start, blank};
-ghost use Rattle.std.proofs.Common.{rules, arith};
+ghost use Rattle.std.proofs.Common.{rules};
 ghost use Rattle.power.specs.declared.recording.Record.{Record};
 ghost use Rattle.power.specs.Replay.{clamp-ranged, masked};
 
@@ -97,7 +97,7 @@ impl PowerModule for Recording {
 
     ghost sensors = { 4 };
 
-    ghost counted = { first_of (Prim.search rules, Prim.grind (arith, Self.row.coded.inj)) };
+    ghost counted = { Prim.search rules };
 
     ghost lawful = { unfold readings_of in
         λ m.
