@@ -1,7 +1,19 @@
 -- The directory as a list. Assumes nothing.
-use Rattle.std.proofs.Common.{◌≡◌, length, refl}
+use Rattle.std.proofs.Common.{◌≡◌, ℕ, ◌<◌, List, length, get_or, Some, ap, ◌∙◌, sym, refl, arith}
+use Rattle.std.specs.List.{slice_get}
+use Rattle.std.proofs.lemmas.Option.{slice_get-get_or}
 use Rattle.cells.specs.Directory.{roles}
+use Rattle.cells.specs.declared.roles.Role.{Role}
+use Rattle.cells.specs.declared.roles.Role.TheVariants.{Model}
 
 pub roles-39 : length roles ≡ 39
 unfolding roles
 roles-39 = refl
+
+-- the length of a list that is the directory
+pub listed_length : (rs : List Role) → rs ≡ roles → length rs ≡ 39
+listed_length rs e = ap length e ∙ roles-39
+
+-- the role at a place of a list that is the directory
+pub listed_role : (rs : List Role) (i p : ℕ) → rs ≡ roles → i ≡ p → i < 39 → Some (get_or rs i Model) ≡ slice_get roles p
+listed_role rs i p e q l = sym (slice_get-get_or rs i Model (omega (arith, listed_length rs e))) ∙ (λ t. slice_get (e t) (q t))

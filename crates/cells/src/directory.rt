@@ -72,6 +72,7 @@ pub fn place_of(cell: u32) -> Option<usize>
 }
 
 // What a cell is for; none where there is no such cell.
+#[tactic(auto, using(crate::proofs::Listed::listed_length, crate::proofs::Listed::listed_role))]
 pub fn role_of(cell: u32) -> Option<Role>
     ensures value { result ≡ role_of cell }
 {
