@@ -1,7 +1,7 @@
 // Whether a request is accepted in these circumstances: the grounds of a request, in their order.
-ghost use Rattle.std.specs.Prelude.{◌≡◌, true, not, pos, if◌then◌else◌, Some, int_lt};
-ghost use Rattle.request.specs.Bounds.{bounds_of, lawful_limit};
-ghost use Rattle.cells.specs.Values.{value_of};
+ghost use Rattle.std.specs.Prelude.{◌≡◌, not, pos, if◌then◌else◌, Some, int_lt};
+ghost use Rattle.cells.specs.Roles.{kind_of};
+ghost use Rattle.cells.specs.Values.{is_mask, lawful, value_of};
 ghost use Rattle.cells.specs.declared.roles.Role.TheVariants.{RateI};
 ghost use Rattle.grammar.specs.Texts.{bytes_of};
 ghost use Rattle.std.specs.Option.{option_map};
@@ -13,7 +13,9 @@ ghost use Rattle.request.specs.declared.refusals.LineRefusal.TheVariants.{WhileO
 ghost use Rattle.request.specs.declared.requests.Question.TheVariants.{Cell as OfCell};
 
 use crate::facts::{is_admin, is_panel_in_remote, is_permitted, is_rated, is_socket_in_local};
-use cells::{CellValue, Ratings, Role, Writer, is_lawful_number};
+use cells::{
+    CellValue, Kind, Ratings, Role, Writer, is_lawful_mask, is_lawful_number, is_lawful_text,
+};
 use grammar::{Quantity, Text, same_word};
 use power::Loop;
 use request::{Approach, Cell, Circumstances, LineRefusal, Question, Request};
@@ -176,6 +178,7 @@ fn decide_read(cell: Cell, c: &Circumstances) -> Result<(), LineRefusal>
     Ok(())
 }
 
+#[tactic(auto, using(crate::proofs::Limits::limit_agrees))]
 fn decide_write(cell: Cell, value: CellValue, c: &Circumstances) -> Result<(), LineRefusal>
     ensures cases { Admits (further_refusal (facts_of c.now) (write_cell cell (value_of value))) result }
 {
@@ -193,8 +196,7 @@ fn decide_write(cell: Cell, value: CellValue, c: &Circumstances) -> Result<(), L
 
 // A software limit, for a seat that may write it.
 fn decide_limit(role: Role, value: CellValue, c: &Circumstances) -> Result<(), LineRefusal>
-    requires { is_limit role ≡ true }
-    ensures cases { Admits (if c.now.on then Some WhileOn else on_ground (not (lawful_limit (bounds_of c.now.rated) role (value_of value))) OutsideRating) result }
+    ensures cases { Admits (if c.now.on then Some WhileOn else on_ground (not (lawful c.now.rated role (value_of value))) OutsideRating) result }
 {
     if c.on {
         return Err(LineRefusal::WhileOn);
@@ -225,14 +227,22 @@ fn may_write(writer: Writer, admin: bool) -> bool
     }
 }
 
-// Whether a value is lawful for a software limit.
 fn is_lawful(role: Role, rated: &Ratings, value: CellValue) -> bool
-    requires { is_limit role ≡ true }
-    ensures value { result ≡ lawful_limit (bounds_of rated.now) role (value_of value) }
+    ensures value { result ≡ lawful rated.now role (value_of value) }
 {
     match value {
         CellValue::Number(v) => is_lawful_number(role, rated, v.millionths()),
-        CellValue::Mask(_) | CellValue::Text(_) => false,
+        CellValue::Mask(m) => is_mask(role) && is_lawful_mask(m),
+        CellValue::Text(text) => is_lawful_text(role, text.as_bytes()),
+    }
+}
+
+fn is_mask(role: Role) -> bool
+    ensures value { result ≡ is_mask (kind_of role) }
+{
+    match role.kind() {
+        Kind::Mask => true,
+        _ => false,
     }
 }
 
