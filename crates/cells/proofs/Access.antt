@@ -1,11 +1,13 @@
 -- What is read after a write. Assumes nothing.
-use Rattle.std.proofs.Common.{◌≡◌, ℕ, ◌<◌, true, false, cond, ltb, List, length, get_or, set, ℤ, Some, sym, refl, ap, ◌∙◌, ⊎_elim, arith}
+use Rattle.std.proofs.Common.{◌≡◌, ℕ, ◌<◌, true, false, cond, ltb, List, length, get_or, set, ℤ, Some, sym, refl, ap, ◌∙◌, ⊎_elim, arith, w64, of_z, to_z}
+use Rattle.std.specs.Prelude.{FitsSigned}
+use Rattle.std.proofs.lemmas.Int.{to_z-of_z}
 use Rattle.std.proofs.lemmas.List.{get_or-set_same, get_or-set_other}
 use Rattle.std.proofs.lemmas.Bool.{cases_Bool, and_parts, ltb-true, cond-true, cond-false, cond_both}
 use Rattle.std.proofs.lemmas.Bool.Decides.{nat_tests}
 use Rattle.cells.specs.Values.{Value, absent, number}
 use Rattle.cells.specs.Directory.{place, kinds}
-use Rattle.cells.specs.Contents.{takes, put, at, same_kind, number_in}
+use Rattle.cells.specs.Contents.{Contents, Wrote, takes, put, at, same_kind, number_in}
 use Rattle.cells.specs.declared.roles.Kind.{Kind}
 use Rattle.cells.specs.declared.roles.Kind.TheVariants.{Number}
 
@@ -35,3 +37,14 @@ read_back vs c z n =
     (λ (t : takes Number c ≡ true). ap number_in (at-put-same Number vs c (number z) n t) ∙ sym (cond-true (takes Number c) (Some z) (number_in (at vs c)) t))
     (λ (f : takes Number c ≡ false). ap (λ (x : List Value). number_in (at x c)) (put-none Number vs c (number z) f) ∙ sym (cond-false (takes Number c) (Some z) (number_in (at vs c)) f))
     (cases_Bool (takes Number c))
+
+-- a number that was written, which the code holds in 64 bits
+module _ (c : ℕ) (z : ℤ) (m n : Contents) (f : FitsSigned w64 z) (w : Wrote Number c (number (to_z w64 (of_z w64 z))) m n) where
+  working_now : n.working ≡ put Number m.working c (number z)
+  working_now = w.working ∙ ap (λ (x : ℤ). put Number m.working c (number x)) (to_z-of_z w64 z f)
+
+  pub number_back : length m.working ≡ 39 → number_in (at n.working c) ≡ cond (takes Number c) (Some z) (number_in (at m.working c))
+  number_back l = ap (λ (x : List Value). number_in (at x c)) working_now ∙ read_back m.working c z l
+
+  pub others_kept : (d : ℕ) → (c ≡ d → ⊥) → at n.working d ≡ at m.working d
+  others_kept d ne = ap (λ (x : List Value). at x d) working_now ∙ at-put-other Number m.working c d (number z) ne

@@ -1,4 +1,3 @@
 pub mod Listed
-pub mod Kept
 pub mod Access
-pub mod ByKind
+pub mod Slots

@@ -1,7 +1,7 @@
 -- Values of the kinds of their cells. Assumes nothing.
-use Rattle.std.specs.Prelude.{◌^◌, Bool, true, false, ◌&&◌, List, [], ◌∷◌, map, length, nat_le, nat_lt}
+use Rattle.std.specs.Prelude.{◌^◌, Bool, true, false, ◌&&◌, List, [], ◌∷◌, Option, map, length, nat_le, nat_lt}
 use Rattle.std.specs.Int.Signed.{mag}
-use Rattle.cells.specs.Values.{Value, absent, number, mask, text, stored_of}
+use Rattle.cells.specs.Values.{Value, absent, number, mask, text, slot_of}
 use Rattle.cells.specs.declared.roles.Kind.{Kind}
 use Rattle.cells.specs.declared.roles.Kind.TheVariants.{Number, Mask, Text}
 use Rattle.cells.specs.declared.stored.Stored.{Stored}
@@ -26,6 +26,6 @@ kinded [] (v ∷ vs) = false
 kinded (k ∷ ks) [] = false
 kinded (k ∷ ks) (v ∷ vs) = fits k v && kinded ks vs
 
--- what the elements of an array of stored values stand for
-abbrev pub values_in : List Stored → List Value
-values_in = map stored_of
+-- what the slots of an array stand for
+abbrev pub values_in : List (Option Stored) → List Value
+values_in = map slot_of

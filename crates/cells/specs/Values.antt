@@ -1,6 +1,6 @@
 -- What a cell may hold, and what of it is lawful. Assumes nothing.
-use Rattle.std.specs.Prelude.{◌≡◌, ℕ, Bool, true, false, cond, not, ◌&&◌, List, [], ◌∷◌, ℤ, pos, ◌≤ℤ◌, codes, int_le, int_lt, nat_le}
-use Rattle.grammar.specs.Range.{in_range, most}
+use Rattle.std.specs.Prelude.{◌≡◌, ℕ, Bool, true, false, cond, not, ◌&&◌, List, [], ◌∷◌, ℤ, pos, ◌≤ℤ◌, Some, None, Option, codes, int_le, int_lt, nat_le}
+use Rattle.grammar.specs.Range.{in_range, most, spans}
 use Rattle.grammar.specs.Texts.{is_text}
 use Rattle.grammar.specs.Words.{same_word}
 use Rattle.grammar.specs.Texts.{bytes_of}
@@ -13,7 +13,7 @@ use Rattle.cells.specs.declared.roles.Role.TheVariants.{Model, Identification, L
 use Rattle.cells.specs.declared.stored.CellValue.{CellValue}
 use Rattle.cells.specs.declared.stored.CellValue.TheVariants.{Number as ANumber, Mask as AMask, Text as AText}
 use Rattle.cells.specs.declared.stored.Stored.{Stored}
-use Rattle.cells.specs.declared.stored.Stored.TheVariants.{Absent, Number as RawNumber, Mask as RawMask, Text as RawText}
+use Rattle.cells.specs.declared.stored.Stored.TheVariants.{Number as RawNumber, Mask as RawMask, Text as RawText}
 
 -- a value as a store holds it: raw, lawful or not
 pub data Value : Type 0 where
@@ -21,10 +21,6 @@ pub data Value : Type 0 where
   number : ℤ → Value
   mask : ℕ → Value
   text : List ℕ → Value
-
--- from one number to another, ends included
-abbrev pub spans : ℤ → ℤ → ℤ → Bool
-spans low high v = int_le low v && int_le v high
 
 -- lawful numbers: a low from the rated low to 0, a high from 0 to the rated high, a rate above 0, and an operator's in range
 abbrev pub lawful_number : Ratings → Role → ℤ → Bool
@@ -113,12 +109,27 @@ spoken [] = absent
 spoken (b ∷ bs) = text (b ∷ bs)
 
 abbrev pub stored_of : Stored → Value
-stored_of Absent = absent
 stored_of (RawNumber v) = number v
 stored_of (RawMask m) = mask m
 stored_of (RawText t) = spoken (bytes_of t)
+
+abbrev pub stored_kind : Stored → Kind
+stored_kind (RawNumber v) = Number
+stored_kind (RawMask m) = Mask
+stored_kind (RawText t) = Text
+
+-- what there is of a stored value, as the code holds it
+abbrev pub slot_of : Option Stored → Value
+slot_of None = absent
+slot_of (Some s) = stored_of s
 
 abbrev pub value_of : CellValue → Value
 value_of (ANumber q) = number q.millionths
 value_of (AMask m) = mask m
 value_of (AText t) = text (bytes_of t)
+
+-- a cell's value, as a store is to hold it
+abbrev pub raw_of : CellValue → Stored
+raw_of (ANumber q) = RawNumber q.millionths
+raw_of (AMask m) = RawMask m
+raw_of (AText t) = RawText t

@@ -8,8 +8,8 @@ use crate::roles::{Kind, Role};
 // How many cells there are.
 pub const CELL_COUNT: usize = 39;
 
-// Cells 0 and 1, 10 to 16, 90 and 91, and 100 to 127.
-static ROLES: [Role; 39] = [
+// Cells 0 and 1, 10 to 16, 90 and 91, and 100 to 127. Written out, since a static's value is a literal.
+static ROLES: [Role; CELL_COUNT] = [
     Role::Model,
     Role::Identification,
     Role::LowI,
@@ -52,6 +52,7 @@ static ROLES: [Role; 39] = [
 ];
 
 // The roles of the cells, in rising order.
+#[tactic(auto, unfolding(crate::specs::Directory::roles))]
 pub fn all_roles() -> &'static [Role]
     ensures value { result.now ≡ roles }
 {
@@ -72,22 +73,17 @@ pub fn place_of(cell: u32) -> Option<usize>
 }
 
 // What a cell is for; none where there is no such cell.
-#[tactic(auto, using(crate::proofs::Listed::listed_length, crate::proofs::Listed::listed_role))]
+#[tactic(auto, using(crate::proofs::Listed::listed_length, crate::proofs::Listed::listed_role, crate::proofs::Listed::listed_end))]
 pub fn role_of(cell: u32) -> Option<Role>
     ensures value { result ≡ role_of cell }
 {
-    match place_of(cell) {
-        Some(at) => Some(all_roles()[at]),
-        None => None,
-    }
+    Some(all_roles()[place_of(cell)?])
 }
 
 // The kind of the cell at a place of the directory; none past its end.
+#[tactic(auto, using(crate::proofs::Listed::listed_length, crate::proofs::Listed::listed_kind))]
 pub fn kind_at(at: usize) -> Option<Kind>
     ensures cases { MatchOption result (39 ≤ at) (λ k. (at < 39) × (k ≡ slice_index_or kinds at Number)) }
 {
-    if at >= CELL_COUNT {
-        return None;
-    }
-    Some(all_roles()[at].kind())
+    all_roles().get(at).map(|role| role.kind())
 }

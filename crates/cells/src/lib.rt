@@ -13,10 +13,11 @@ pub mod values;
 
 pub use array::CellArray;
 pub use directory::{CELL_COUNT, all_roles, kind_at, place_of, role_of};
-pub use ratings::{Ratings, Span};
+pub use grammar::Span;
+pub use ratings::Ratings;
 pub use reading::{exchange_number, read_cell};
 pub use roles::{Kind, Role, Writer};
 pub use stored::{CellValue, Stored, Unfit};
 pub use stores::{CellStore, Unable};
 pub use table::TableStore;
-pub use values::{cell_value, factory_value, is_lawful_mask, is_lawful_number, is_lawful_text};
+pub use values::is_lawful_mask;

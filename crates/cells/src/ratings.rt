@@ -1,11 +1,5 @@
 // The rated spans of a power module, as plain values.
-use grammar::Quantity;
-
-#[derive(Clone, Copy)]
-pub struct Span {
-    pub low: Quantity,
-    pub high: Quantity,
-}
+use grammar::Span;
 
 #[derive(Clone, Copy)]
 pub struct Ratings {

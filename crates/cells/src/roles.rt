@@ -63,9 +63,6 @@ impl Writer {
     pub fn is_protected(self) -> bool
         ensures value { result ≡ protected self }
     {
-        match self {
-            Writer::Nobody | Writer::Admin => true,
-            Writer::User => false,
-        }
+        matches!(self, Writer::Nobody | Writer::Admin)
     }
 }

@@ -4,8 +4,8 @@ ghost use Rattle.cells.specs.Tables.{table_contents, table_start};
 ghost use Rattle.cells.specs.Sorts.{values-39};
 
 use crate::array::CellArray;
+use crate::stored::Stored;
 use crate::stores::{CellStore, Unable};
-use grammar::Text;
 
 #[derive(Drop)]
 pub struct TableStore {
@@ -30,28 +30,12 @@ impl CellStore for TableStore {
 
     ghost whole = { λ s. record { working = values-39 s.working.slots s.working.kinded; saved = values-39 s.saved.slots s.saved.kinded } };
 
-    fn number(&self, cell: u32) -> Option<i64> {
-        self.working.number(cell)
+    fn get(&self, cell: u32) -> Option<Stored> {
+        self.working.get(cell)
     }
 
-    fn mask(&self, cell: u32) -> Option<u32> {
-        self.working.mask(cell)
-    }
-
-    fn text(&self, cell: u32) -> Text {
-        self.working.text(cell)
-    }
-
-    fn set_number(&mut self, cell: u32, value: i64) {
-        self.working.set_number(cell, value);
-    }
-
-    fn set_mask(&mut self, cell: u32, value: u32) {
-        self.working.set_mask(cell, value);
-    }
-
-    fn set_text(&mut self, cell: u32, value: Text) {
-        self.working.set_text(cell, value);
+    fn set(&mut self, cell: u32, value: Stored) {
+        self.working.set(cell, value);
     }
 
     fn is_able(&self) -> bool {

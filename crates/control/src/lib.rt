@@ -9,4 +9,4 @@ pub mod trips;
 pub use heat::hottest;
 pub use ramp::{Ramp, demand_after};
 pub use status::Status;
-pub use trips::{active_interlocks, latch, reset, trips_now};
+pub use trips::{Causes, Interlocks};

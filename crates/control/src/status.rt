@@ -1,7 +1,6 @@
 // The status register.
-ghost use Rattle.std.specs.Prelude.{◌≡◌, if◌then◌else◌};
-ghost use Rattle.request.specs.Facts.{is_local};
-ghost use Rattle.control.specs.Status.{register_of, is_voltage};
+ghost use Rattle.std.specs.Prelude.{◌≡◌};
+ghost use Rattle.control.specs.Status.{register_of};
 
 use power::Loop;
 use request::Control;
@@ -25,35 +24,11 @@ impl Status {
     pub fn register(&self) -> u32
         ensures value { result ≡ register_of self.now }
     {
-        weight(self.on, 1 << 0)
-            + weight(self.trips != 0, 1 << 1)
-            + weight(is_local(self.control), 1 << 2)
-            + weight(is_voltage(self.present), 1 << 5)
-            + weight(self.ramping, 1 << 12)
+        u32::from(self.on)
+            + (u32::from(self.trips != 0) << 1)
+            + (u32::from(self.control == Control::Local) << 2)
+            + (u32::from(self.present == Loop::V) << 5)
+            + (u32::from(self.ramping) << 12)
             + (self.trips & TRIP_BITS)
-    }
-}
-
-fn weight(up: bool, bit: u32) -> u32
-    ensures value { result ≡ (if up then bit else 0) }
-{
-    if up { bit } else { 0 }
-}
-
-fn is_local(control: Control) -> bool
-    ensures value { result ≡ is_local control }
-{
-    match control {
-        Control::Local => true,
-        Control::Remote => false,
-    }
-}
-
-fn is_voltage(present: Loop) -> bool
-    ensures value { result ≡ is_voltage present }
-{
-    match present {
-        Loop::I => false,
-        Loop::V => true,
     }
 }

@@ -9,3 +9,4 @@ pub mod Reading
 pub mod Plain
 pub mod Splits
 pub mod Writes
+pub mod Screen

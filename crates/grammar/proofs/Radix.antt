@@ -1,13 +1,13 @@
 -- Digits in a base: what they read as, and the one plain way to write a number in them. Assumes nothing.
-use Rattle.std.proofs.Common.{◌≡◌, ℕ, zero, suc, ◌+◌, ◌*◌, ◌/◌, ◌%◌, ◌^◌, ◌<◌, ◌≤◌, true, false, ◌&&◌, ltb, leb, List, [], ◌∷◌, ◌++◌, map, length, get_or, Some, None, Option, sym, refl, ap, ◌∙◌, subst, ⊎_elim, append_assoc, mod-eq_of_lt, mul-le-mul_left, zero-mul, arith}
+use Rattle.std.proofs.Common.{◌≡◌, ℕ, zero, suc, ◌+◌, ◌*◌, ◌/◌, ◌%◌, ◌^◌, ◌<◌, ◌≤◌, true, false, ◌&&◌, ltb, leb, List, [], ◌∷◌, ◌++◌, map, length, get_or, take, Some, None, Option, sym, refl, ap, ◌∙◌, subst, ⊎_elim, append_assoc, mod-eq_of_lt, mul-le-mul_left, zero-mul, arith}
 use native.Mathlib.Nat.{pow-le-pow_right, div-eq_of_lt}
 use Rattle.std.specs.Str.Parse.{AllDigits, digits_value}
 use Rattle.std.specs.Char.{digit_value}
 use Rattle.std.specs.Int.Digits.{digits_of, number_from_digits, number_from_digits_after, AllBelowBase}
 use Rattle.std.specs.List.{AllByRecursion}
 use Rattle.std.proofs.lemmas.Nat.{div-mul-add, mod-mul-add, le-div}
-use Rattle.std.proofs.lemmas.Int.Digits.{digits_of_step, length-digits_of-le, all_below_base_digits_of, first_digits_of, number_digits_of, number_after_ge, digits_value_is, digits_value-lt, all_below_base_from_digits}
-use Rattle.std.proofs.lemmas.List.{map_push, length_push, length-map, append-nil, nil_from_length, get_or-map}
+use Rattle.std.proofs.lemmas.Int.Digits.{digits_of_step, length-digits_of-le, all_below_base_digits_of, first_digits_of, number_digits_of, number_after_ge, digits_value_is, digits_value-lt, digits_value_more, digits_more, all_below_base_from_digits}
+use Rattle.std.proofs.lemmas.List.{map_push, length_push, length-map, length-take-le, append-nil, nil_from_length, get_or-map}
 use Rattle.std.proofs.lemmas.Bool.{and_parts, and_from, ne_eqb, lt-ltb, ltb-true, le-leb, leb-true, cases_Bool, cases_eq, cond-true, cond-false}
 use Rattle.std.proofs.lemmas.Bool.Decides.{nat_tests}
 use Rattle.grammar.specs.Numerals.{ReadsNumeral, all_digits, numeral_of, ExactNumeral, digit_char, numeral, PlainNumeral, CanonicalNumeral}
@@ -74,6 +74,20 @@ room b ds k lo d few =
     let v = digits_value-lt b ds d in
     let p : b ^ length ds ≤ b ^ k = pow-le-pow_right lo {i = length ds} {j = k} few in
     omega arith
+
+-- what one digit more makes of a number that is being read
+pub record More (b : ℕ) (ds : List ℕ) (n : ℕ) : Type 0 where
+  pub digits : AllDigits b ds
+  pub size : n ≡ digits_value b ds
+  pub fits : n < 2 ^ 32
+
+pub one-more : (b most : ℕ) (ds : List ℕ) (i n d : ℕ) → 2 ≤ b → i < length ds → length ds ≤ most → b ^ most ≤ 2 ^ 32 → (n ≡ digits_value b (take i ds)) × AllDigits b (take i ds) → (d ≡ digit_value (get_or ds i 0)) × (d < b) → More b (take (i + 1) ds) (n * b + d)
+one-more b most ds i n d two h few fits (is, all) (counts, low) =
+    let more = digits_more b ds i h all (omega arith) in
+    let size : n * b + d ≡ digits_value b (take (i + 1) ds) = (λ t. is t * b + counts t) ∙ sym (digits_value_more b ds i h) in
+    let l = length-take-le (i + 1) ds (omega arith) in
+    let r = room b (take (i + 1) ds) most (omega arith) more (omega arith) in
+    record { digits = more; size = size; fits = omega arith }
 
 -- PRINTING
 

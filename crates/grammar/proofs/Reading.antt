@@ -1,9 +1,10 @@
 -- What one byte does to a number that is being read. Assumes nothing.
-use Rattle.std.proofs.Common.{◌≡◌, ℕ, zero, suc, ◌+◌, ◌-◌, ◌*◌, ◌^◌, ◌<◌, ◌≤◌, true, List, [], ◌∷◌, ◌++◌, length, get_or, take, drop, is_some, None, sym, refl, ap, ◌∙◌, subst, append_assoc, mul-lt-mul_of_pos_right, arith, pow-add}
+use Rattle.std.proofs.Common.{◌≡◌, ℕ, zero, suc, ◌+◌, ◌-◌, ◌*◌, ◌^◌, ◌<◌, ◌≤◌, Bool, true, List, [], ◌∷◌, ◌++◌, length, get_or, take, drop, is_some, None, sym, refl, ap, ◌∙◌, subst, append_assoc, mul-lt-mul_of_pos_right, arith, pow-add}
 use native.Mathlib.Nat.{pow-le-pow_right}
 use Rattle.std.proofs.lemmas.List.{at_drop_more, at_drop_all, take_more, take_all, take-append-drop, take-take}
 use Rattle.std.proofs.lemmas.Bool.{ne_eqb}
-use Rattle.grammar.specs.Numbers.{number_of, LongestBeginning}
+use Rattle.std.specs.Option.{option_map}
+use Rattle.grammar.specs.Numbers.{signed, before_point, after_point, number_of, LongestBeginning}
 use Rattle.grammar.specs.Scans.{read_from}
 use Rattle.grammar.specs.declared.numbers.scan.Scan.{Scan}
 use Rattle.grammar.specs.declared.numbers.scan.Scan.TheVariants.{Start, Whole, Fraction}
@@ -33,10 +34,16 @@ at-end s text i h = at_drop_all (read_from s) text i h
 -- what has been read can always become a number
 goes_on : (s : Scan) → (cs : List ℕ) × (is_some (read_from s cs) ≡ true)
 goes_on Start = (48 ∷ [], refl)
-goes_on (Whole m zero n) = (48 ∷ [], refl)
-goes_on (Whole m (suc k) n) = ([], rw (ne_eqb (suc k) 0 (λ z. omega arith)))
-goes_on (Fraction m zero n) = (48 ∷ [], refl)
-goes_on (Fraction m (suc k) n) = ([], rw (ne_eqb (suc k) 0 (λ z. omega arith)))
+goes_on (Whole d) = whole d.minus d.count d.n
+  where
+    whole : (m : Bool) (k n : ℕ) → (cs : List ℕ) × (is_some (option_map (signed m) (before_point k n cs)) ≡ true)
+    whole m zero n = (48 ∷ [], refl)
+    whole m (suc k) n = ([], rw (ne_eqb (suc k) 0 (λ z. omega arith)))
+goes_on (Fraction d) = fraction d.minus d.count d.n
+  where
+    fraction : (m : Bool) (k n : ℕ) → (cs : List ℕ) × (is_some (option_map (signed m) (after_point k n cs)) ≡ true)
+    fraction m zero n = (48 ∷ [], refl)
+    fraction m (suc k) n = ([], rw (ne_eqb (suc k) 0 (λ z. omega arith)))
 
 -- what is read after the first i bytes, and one byte more
 module _ (s : Scan) (text : List ℕ) (i : ℕ) (reads : (cs : List ℕ) → read_from s cs ≡ number_of (take i text ++ cs)) where

@@ -1,18 +1,12 @@
 -- The fields of a line, which is split at its colons. Assumes nothing.
-use Rattle.std.specs.Prelude.{◌≡◌, ℕ, ◌≤◌, cond, List, [], ◌∷◌, ◌++◌, length, Some, None, Option, ◌==◌, slice_index_or}
+use Rattle.std.specs.Prelude.{◌≡◌, ℕ, ◌≤◌, List, [], length, Some, None, Option, ◌==◌, slice_index_or}
 use Rattle.std.specs.Borrow.{Bor}
 use Rattle.std.specs.Str.Iter.{LacksByte}
-use Rattle.std.specs.List.{join_with_byte, AllByRecursion}
-
--- a front put before the first field
-abbrev pub prepend : List ℕ → List (List ℕ) → List (List ℕ)
-prepend p [] = p ∷ []
-prepend p (f ∷ fs) = (p ++ f) ∷ fs
+use Rattle.std.specs.List.{slice_split, join_with_byte, AllByRecursion}
 
 -- the fields of a line: it is split at each colon, and an empty field counts
 unfoldable pub fields : List ℕ → List (List ℕ)
-fields [] = [] ∷ []
-fields (c ∷ cs) = cond (c == 58) ([] ∷ fields cs) (prepend (c ∷ []) (fields cs))
+fields line = slice_split (λ c. c == 58) line
 
 -- the field at a place, empty where there is none
 abbrev pub field : ℕ → List (List ℕ) → List ℕ

@@ -15,3 +15,7 @@ in_range v = int_le least v && int_le v most
 -- the nearest number that is in the range
 abbrev pub clamp : ℤ → ℤ
 clamp v = int_max least (int_min most v)
+
+-- from one number to another, ends included
+abbrev pub spans : ℤ → ℤ → ℤ → Bool
+spans low high v = int_le low v && int_le v high

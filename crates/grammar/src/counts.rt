@@ -3,6 +3,7 @@ ghost use Rattle.std.specs.Prelude.{◌≡◌, ◌≤◌, length, IfSome};
 ghost use Rattle.grammar.specs.Numerals.{numeral_of, ExactNumeral, numeral, CanonicalNumeral};
 ghost use Rattle.grammar.specs.Texts.{bytes_of};
 
+use crate::base::Base;
 use crate::digits::{push_digits, read_digits};
 use crate::text::Text;
 
@@ -14,7 +15,7 @@ pub fn read_index(text: &[u8]) -> Option<u32>
     ensures bound { IfSome result (λ n. n ≤ 999) }
     ensures exact { ExactNumeral 10 3 text.now }
 {
-    read_digits(text, 10, INDEX_DIGITS)
+    read_digits(text, Base::DECIMAL, INDEX_DIGITS)
 }
 
 // The printed form of a count.
@@ -24,6 +25,6 @@ pub fn print_count(n: u32) -> Text
     ensures canonical { CanonicalNumeral 10 n }
 {
     let mut text = Text::absent();
-    push_digits(&mut text, 10, n as u64);
+    push_digits(&mut text, Base::DECIMAL, n as u64);
     text
 }

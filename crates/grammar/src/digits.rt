@@ -4,14 +4,15 @@ ghost use Rattle.std.specs.Char.{digit_value};
 ghost use Rattle.grammar.specs.Numerals.{numeral_of, ExactNumeral, numeral, digit_char};
 ghost use Rattle.grammar.specs.Texts.{bytes_of};
 
+use crate::base::Base;
 use crate::text::Text;
 
 // The number that one to `most` digits write; none where these bytes are something else.
-pub(crate) fn read_digits(text: &[u8], base: u32, most: usize) -> Option<u32>
-    requires { (2 ≤ base) × ((base ≤ 36) × (base ^ most ≤ 2 ^ 32)) }
-    ensures value { result ≡ numeral_of base most text.now }
-    ensures bound { IfSome result (λ n. n < base ^ most) }
-    ensures exact { ExactNumeral base most text.now }
+pub(crate) fn read_digits(text: &[u8], base: Base, most: usize) -> Option<u32>
+    requires { base.value ^ most ≤ 2 ^ 32 }
+    ensures value { result ≡ numeral_of base.value most text.now }
+    ensures bound { IfSome result (λ n. n < base.value ^ most) }
+    ensures exact { ExactNumeral base.value most text.now }
 {
     if text.is_empty() {
         return None;
@@ -21,33 +22,31 @@ pub(crate) fn read_digits(text: &[u8], base: u32, most: usize) -> Option<u32>
     }
     let mut n: u32 = 0;
     for c in text {
-        match digit_value(*c, base) {
-            Some(d) => n = n * base + d,
-            None => return None,
-        }
+        let d = digit_value(*c, base)?;
+        n = n * base.value + d;
     }
     Some(n)
 }
 
 // What a digit of either case counts for; none where the byte is no digit of the base.
-fn digit_value(c: u8, base: u32) -> Option<u32>
-    requires { (2 ≤ base) × (base ≤ 36) }
-    ensures cases { MatchOption result (base ≤ digit_value c) (λ d. (d ≡ digit_value c) × (d < base)) }
+fn digit_value(c: u8, base: Base) -> Option<u32>
+    ensures cases { MatchOption result (base.value ≤ digit_value c) (λ d. (d ≡ digit_value c) × (d < base.value)) }
 {
-    char::from(c).to_digit(base)
+    char::from(c).to_digit(base.value)
 }
 
 // The digits of `n`, upper-case and without leading zeros.
-pub(crate) fn push_digits(text: &mut Text, base: u64, n: u64)
-    requires { (2 ≤ base) × ((base ≤ 36) × (length (bytes_of text.old) + length (numeral base n) ≤ 24)) }
-    ensures bytes { bytes_of text.new ≡ bytes_of text.old ++ numeral base n }
+pub(crate) fn push_digits(text: &mut Text, base: Base, n: u64)
+    requires { length (bytes_of text.old) + length (numeral base.value n) ≤ 24 }
+    ensures bytes { bytes_of text.new ≡ bytes_of text.old ++ numeral base.value n }
 {
-    if n < base {
+    let radix = base.value as u64;
+    if n < radix {
         text.push(digit_char(n as u8));
         return;
     }
-    push_digits(text, base, n / base);
-    text.push(digit_char((n % base) as u8));
+    push_digits(text, base, n / radix);
+    text.push(digit_char((n % radix) as u8));
 }
 
 fn digit_char(d: u8) -> u8

@@ -1,5 +1,5 @@
 // The fields of a line, which is split at its colons.
-ghost use Rattle.std.specs.Prelude.{◌≡◌, ◌∷◌, length, drop};
+ghost use Rattle.std.specs.Prelude.{◌≡◌, ◌∷◌, length, drop, position, ◌==◌};
 ghost use Rattle.grammar.specs.Fields.{fields, fields_after, field, ExactFields};
 
 // The first three fields of a line, empty where it has fewer, and how many it has in all.
@@ -34,12 +34,17 @@ pub fn split_fields(line: &[u8]) -> Fields<'_>
 fn split_first(line: &[u8]) -> (&[u8], Option<&[u8]>)
     ensures value { fields line.now ≡ result.0.now ∷ fields_after result.1 }
 {
-    for (i, b) in line.iter().enumerate() {
-        if *b == b':' {
-            return (&line[0..i], Some(&line[i + 1..]));
-        }
+    match colon_in(line) {
+        Some(i) => (&line[..i], Some(&line[i + 1..])),
+        None => (line, None),
     }
-    (line, None)
+}
+
+// Where the first colon of a line stands.
+fn colon_in(line: &[u8]) -> Option<usize>
+    ensures value { result ≡ position (λ b. b == 58) line.now }
+{
+    line.iter().position(|b| *b == b':')
 }
 
 // The first field of what follows a colon, empty where no colon came before.
@@ -57,11 +62,5 @@ fn split_next(rest: Option<&[u8]>) -> (&[u8], Option<&[u8]>)
 fn count_fields(line: &[u8]) -> usize
     ensures value { result ≡ length (fields line.now) }
 {
-    let mut n: usize = 1;
-    for b in line {
-        if *b == b':' {
-            n += 1;
-        }
-    }
-    n
+    1 + line.iter().filter(|b| **b == b':').count()
 }

@@ -3,6 +3,7 @@ ghost use Rattle.std.specs.Prelude.{◌≡◌, ◌≤◌, length};
 ghost use Rattle.grammar.specs.Masks.{mask_of, ExactMask, printed_mask, CanonicalMask};
 ghost use Rattle.grammar.specs.Texts.{bytes_of};
 
+use crate::base::Base;
 use crate::digits::{push_digits, read_digits};
 use crate::text::Text;
 
@@ -16,7 +17,7 @@ pub fn read_mask(text: &[u8]) -> Option<u32>
     let [b'0', b'x' | b'X', digits @ ..] = text else {
         return None;
     };
-    read_digits(digits, 16, MASK_DIGITS)
+    read_digits(digits, Base::HEXADECIMAL, MASK_DIGITS)
 }
 
 // The printed form of a mask.
@@ -27,6 +28,6 @@ pub fn print_mask(mask: u32) -> Text
 {
     let mut text = Text::absent();
     text.extend(b"0x");
-    push_digits(&mut text, 16, mask as u64);
+    push_digits(&mut text, Base::HEXADECIMAL, mask as u64);
     text
 }

@@ -1,4 +1,5 @@
 // Numbers: an optional minus, one to four digits, then perhaps a point and one to six digits.
+mod digits;
 mod print;
 mod read;
 mod scan;

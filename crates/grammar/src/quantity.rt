@@ -32,17 +32,9 @@ impl Quantity {
     pub fn clamped(millionths: i64) -> Quantity
         ensures value { result.millionths ≡ clamp millionths }
     {
-        if millionths < Self::LEAST {
-            return Quantity {
-                millionths: Self::LEAST,
-            };
+        Quantity {
+            millionths: millionths.clamp(Self::LEAST, Self::MOST),
         }
-        if millionths > Self::MOST {
-            return Quantity {
-                millionths: Self::MOST,
-            };
-        }
-        Quantity { millionths }
     }
 
     pub fn millionths(self) -> i64
@@ -51,3 +43,5 @@ impl Quantity {
         self.millionths
     }
 }
+
+mod display;

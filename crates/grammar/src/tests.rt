@@ -56,11 +56,7 @@ const INDICES: [(&[u8], Option<u32>); 7] = [
 #[test]
 fn numbers(rt: HostRuntime) {
     for (typed, millionths, stops) in &NUMBERS {
-        let read = match read_number(typed) {
-            Some(q) => Some(q.millionths()),
-            None => None,
-        };
-        assert_eq!(rt; read, *millionths);
+        assert_eq!(rt; read_number(typed).map(Quantity::millionths), *millionths);
         assert_eq!(rt; number_prefix(typed), *stops);
     }
     for (millionths, text) in &PRINTED {

@@ -1,12 +1,8 @@
 // The one type for short texts: up to 24 bytes of any value, kept as they were typed.
 // Length 0 means that there is none.
-ghost use Rattle.std.specs.Prelude.{◌≤◌};
+use crate::bytes::Bytes;
 
-#[derive(Clone, Copy)]
-pub struct Text {
-    bytes: [u8; 24],
-    len: usize,
-    ghost short: { len ≤ 24 },
-}
+// The most bytes that a text can have.
+pub const TEXT_MOST: usize = 24;
 
-mod methods;
+pub type Text = Bytes<TEXT_MOST>;

@@ -1,11 +1,20 @@
 -- The steps of reading an image. Assumes nothing.
-use Rattle.std.proofs.Common.{◌≡◌, ℕ, ◌+◌, ◌-◌, ◌*◌, ◌<◌, ◌≤◌, Bool, true, false, ◌&&◌, eqb, leb, List, [], ◌∷◌, ◌++◌, length, get_or, take, drop, set, replicate, Some, None, Option, sym, refl, ap, ◌∙◌, arith}
-use Rattle.std.proofs.lemmas.List.{get_or-drop, length-drop, drop-drop, drop_more, take_more_set, append_assoc, take_all, drop_all, append-nil}
-use Rattle.std.proofs.lemmas.Bool.{and_parts, leb-true, cond-true, cond-false, le-leb, lt-leb}
+use Rattle.std.proofs.Common.{◌≡◌, ℕ, ◌+◌, ◌-◌, ◌*◌, ◌<◌, ◌≤◌, Bool, true, false, ◌&&◌, eqb, leb, List, [], ◌∷◌, ◌++◌, length, get_or, take, drop, set, replicate, Some, None, Option, map, sym, refl, ap, ◌∙◌, arith}
+use Rattle.std.proofs.lemmas.List.{take_rest, get_or-map, get_or-drop, length-drop, drop-drop, drop_more, take_more_set, append_assoc, take_all, drop_all, append-nil}
+use Rattle.std.proofs.lemmas.Bool.{and_from, lt-ltb, and_parts, leb-true, cond-true, cond-false, le-leb, lt-leb}
 use Rattle.cells.specs.Values.{Value, absent}
 use Rattle.image.specs.Image.{from16, sized, value_in, after, lawful, parse, or_absent, decoded, Pair}
 use Rattle.cells.specs.declared.roles.Kind.{Kind}
 use Rattle.cells.specs.declared.roles.Kind.TheVariants.{Number}
+use Rattle.cells.specs.declared.roles.Role.{Role}
+use Rattle.cells.specs.declared.roles.Role.TheVariants.{Model}
+use Rattle.cells.specs.Directory.{roles, kinds}
+use Rattle.cells.specs.Sorts.{kinds-39, values-39}
+use Rattle.cells.proofs.Listed.{listed_length}
+use Rattle.cells.specs.Roles.{kind_of}
+use Rattle.cells.specs.Kinded.{values_in}
+use Rattle.cells.specs.declared.array.CellArray.{CellArray}
+use Rattle.std.specs.Option.{option_map, unwrap_or}
 
 pub from16-drop : (bs : List ℕ) (n j : ℕ) → from16 (drop n bs) j ≡ from16 bs (n + j)
 from16-drop bs n j =
@@ -13,18 +22,27 @@ from16-drop bs n j =
     let b : get_or (drop n bs) (j + 1) 0 ≡ get_or bs (n + j + 1) 0 = get_or-drop n bs (j + 1) 0 ∙ ap (λ (m : ℕ). get_or bs m 0) (omega arith) in
     rw (a, b)
 
-pub lawful-is : (k : Kind) (bs : List ℕ) (i at o s : ℕ) → o ≡ from16 bs (4 * i) → s ≡ from16 bs (4 * i + 2) → (eqb o at && (sized k s && leb s (length bs - at))) ≡ lawful k at (drop (4 * i) bs) (drop at bs)
-lawful-is k bs i at o s p q =
-    let a : from16 (drop (4 * i) bs) 0 ≡ o = from16-drop bs (4 * i) 0 ∙ ap (from16 bs) (omega arith) ∙ sym p in
-    let b : from16 (drop (4 * i) bs) 2 ≡ s = from16-drop bs (4 * i) 2 ∙ sym q in
-    rw (a, b, length-drop) refl
+-- the kind of a role at a place of a list that is the directory
+pub kind-at : (rs : List Role) (i : ℕ) (k : Kind) → rs ≡ roles → i < length rs → k ≡ kind_of (get_or rs i Model) → k ≡ get_or kinds i Number
+kind-at rs i k e l q = q ∙ sym (get_or-map kind_of rs i Model Number l) ∙ ap (λ (xs : List Role). get_or (map kind_of xs) i Number) e
 
-pub pair_is : (k : Kind) (bs : List ℕ) (i at s : ℕ) → at ≤ length bs → true ≡ lawful k at (drop (4 * i) bs) (drop at bs) → s ≡ from16 bs (4 * i + 2) → Pair k i at s bs
-pair_is k bs i at s le e q =
-    let b : s ≡ from16 (drop (4 * i) bs) 2 = q ∙ sym (from16-drop bs (4 * i) 2) in
-    let w = (and_parts (eqb (from16 (drop (4 * i) bs) 0) at) _ (sym e)).1 in
-    let v = and_parts (sized k (from16 (drop (4 * i) bs) 2)) (leb (from16 (drop (4 * i) bs) 2) (length (drop at bs))) w in
-    record { is = sym e; size = b; kind = ap (sized k) b ∙ v.0; within = omega (arith, b, leb-true _ _ v.1, length-drop at bs) }
+-- a pair that tells offset o and size s, of a cell of kind k
+module _ (k : Kind) (bs : List ℕ) (i at o s : ℕ) (p : o ≡ from16 bs (4 * i)) (q : s ≡ from16 bs (4 * i + 2)) where
+  size-is : s ≡ from16 (drop (4 * i) bs) 2
+  size-is = q ∙ sym (from16-drop bs (4 * i) 2)
+
+  pub lawful-is : (eqb o at && (sized k s && leb s (length (take (length bs - at) (drop at bs))))) ≡ lawful k at (drop (4 * i) bs) (drop at bs)
+  lawful-is =
+      let a : o ≡ from16 (drop (4 * i) bs) 0 = p ∙ ap (from16 bs) (omega arith) ∙ sym (from16-drop bs (4 * i) 0) in
+      let r : take (length bs - at) (drop at bs) ≡ drop at bs = take_rest bs at in
+      (λ t. eqb (a t) at && (sized k (size-is t) && leb (size-is t) (length (r t))))
+
+  pub pair_is : at ≤ length bs → (eqb o at && (sized k s && leb s (length (take (length bs - at) (drop at bs))))) ≡ true → Pair k i at s bs
+  pair_is le t =
+      let e = sym lawful-is ∙ t in
+      let w = (and_parts (eqb (from16 (drop (4 * i) bs) 0) at) _ e).1 in
+      let v = and_parts (sized k (from16 (drop (4 * i) bs) 2)) (leb (from16 (drop (4 * i) bs) 2) (length (drop at bs))) w in
+      record { is = e; size = size-is; kind = ap (sized k) size-is ∙ v.0; within = omega (arith, size-is, leb-true _ _ v.1, length-drop at bs) }
 
 abbrev pub onto : List Value → Option (List Value) → Option (List Value)
 onto vs None = None
@@ -64,12 +82,6 @@ pub decoded-short : (ks : List Kind) (bs : List ℕ) → length bs < 4 * length 
 unfolding decoded
 decoded-short ks bs l = cond-false (leb (4 * length ks) (length bs)) _ _ (lt-leb _ _ l)
 
-pub all_three : (a b x : Bool) → a ≡ true → true ≡ b → x ≡ (a && (b && x))
-all_three a b x p q = rw (p, ← q)
-
-pub not-second : (a b x : Bool) → a ≡ true → false ≡ b → false ≡ (a && (b && x))
-not-second a b x p q = rw (p, ← q)
-
 pub rest_all : (ks : List Kind) (bs : List ℕ) (i at : ℕ) (vs : List Value) → length ks ≤ i → length vs ≤ i → onto (take i vs) (rest ks bs i at) ≡ Some vs
 rest_all ks bs i at vs lk lv =
     ap (λ (x : List Kind). onto (take i vs) (parse x at (drop (4 * i) bs) (drop at bs))) (drop_all i ks lk)
@@ -81,3 +93,11 @@ decoded-at ks bs n o e l h =
 
 pub decoded-less : (ks : List Kind) (bs : List ℕ) (n : ℕ) → length ks ≡ n → length bs < 4 * n → decoded ks bs ≡ replicate n absent
 decoded-less ks bs n e l = decoded-short ks bs (omega (arith, e)) ∙ ap (λ (m : ℕ). replicate m absent) e
+
+-- an array that was read, or one with all absent
+pub read_or_absent : (o : Option CellArray) (d : CellArray) → values_in d.slots ≡ replicate 39 absent → values_in (unwrap_or o d).slots ≡ or_absent 39 (option_map (λ (c : CellArray). values_in c.slots) o)
+read_or_absent None d e = e
+read_or_absent (Some c) d e = refl
+
+-- what the loop over the pairs uses
+pub ruleset reading = (listed_length, kind-at, lawful-is, pair_is, rest_more, rest-stop, rest_all, decoded-at, decoded-less, kinds-39, values-39, take_rest, and_from, lt-ltb)

@@ -1,22 +1,26 @@
 -- The steps of writing an image. Assumes nothing.
-use Rattle.std.proofs.Common.{◌≡◌, ℕ, ◌+◌, ◌<◌, ◌≤◌, true, ltb, leb, List, [], ◌∷◌, ◌++◌, length, get_or, take, drop, sym, refl, ap, ◌∙◌, arith}
-use Rattle.std.proofs.lemmas.List.{append_assoc, append-nil, length-append, take_more, take_all, take-append-drop, length-map}
+use Rattle.std.proofs.Common.{◌≡◌, ℕ, ◌+◌, ◌*◌, ◌<◌, ◌≤◌, true, ltb, leb, List, [], ◌∷◌, ◌++◌, Option, length, get_or, take, drop, sym, refl, ap, ◌∙◌, arith}
+use Rattle.std.specs.List.{sum_by}
+use Rattle.std.proofs.lemmas.List.Sums.{sum_by-cons}
+use Rattle.std.proofs.lemmas.List.{append_assoc, append-nil, length-append, take_more, take_all, take-append-drop, length-map, length-take}
 use Rattle.std.proofs.lemmas.Bool.{and_parts, false≢true, leb-true}
-use Rattle.cells.specs.Values.{Value, absent, number, mask, text, spoken}
-use Rattle.cells.specs.Kinded.{fits, kinded}
-use Rattle.cells.specs.Values.{stored_of}
-use Rattle.cells.specs.Kinded.{values_in}
+use Rattle.cells.specs.Values.{Value, absent, number, mask, text, slot_of}
+use Rattle.cells.specs.Kinded.{fits, kinded, values_in}
 use Rattle.cells.specs.Directory.{roles, kinds}
 use Rattle.image.specs.Image.{be16, content, contents, directory, encoded}
 use Rattle.cells.specs.declared.roles.Kind.{Kind}
 use Rattle.cells.specs.declared.roles.Kind.TheVariants.{Number, Mask, Text}
 use Rattle.cells.specs.declared.stored.Stored.{Stored}
-use Rattle.cells.specs.Sorts.{slots-39, slot_at}
-use Rattle.image.specs.Format.{encoded-length}
+use Rattle.cells.specs.Sorts.{values-39, slots-39, slot_at}
+use Rattle.image.specs.Format.{encoded-length, directory-length}
 
-pub content-spoken : (bs : List ℕ) → content (spoken bs) ≡ bs
-content-spoken [] = refl
-content-spoken (b ∷ bs) = refl
+-- the number of bytes of what a slot stands for
+abbrev pub size_in : Option Stored → ℕ
+size_in s = length (content (slot_of s))
+
+pub sizes-contents : (xs : List (Option Stored)) → sum_by size_in xs ≡ length (contents (values_in xs))
+sizes-contents [] = refl
+sizes-contents (x ∷ xs) = omega (arith, sum_by-cons size_in x xs, sizes-contents xs, length-append (content (slot_of x)) (contents (values_in xs)))
 
 -- one value more
 pub contents-push : (vs : List Value) (v : Value) → contents (vs ++ v ∷ []) ≡ contents vs ++ content v
@@ -63,10 +67,20 @@ pub most-352 : most kinds ≡ 352
 unfolding roles
 most-352 = refl
 
+pub contents-352 : (xs : List (Option Stored)) → kinded kinds (values_in xs) ≡ true → length (contents (values_in xs)) ≤ 352
+contents-352 xs e = omega (arith, at_most kinds (values_in xs) e, most-352)
+
+pub image_length : (xs : List (Option Stored)) → kinded kinds (values_in xs) ≡ true → length (encoded (values_in xs)) ≡ 156 + length (contents (values_in xs))
+image_length xs e = omega (arith, encoded-length (values_in xs), values-39 xs e)
+
+pub encoded_is : (xs : List (Option Stored)) → kinded kinds (values_in xs) ≡ true → encoded (values_in xs) ≡ directory 156 (values_in xs) ++ contents (values_in xs)
+encoded_is xs e =
+    let start : 4 * length (values_in xs) ≡ 156 = omega (arith, values-39 xs e) in
+    ap (λ (n : ℕ). directory n (values_in xs) ++ contents (values_in xs)) start
+
 -- NO IMAGE IS LONGER THAN 508 BYTES
-pub image-508 : (xs : List Stored) → kinded kinds (values_in xs) ≡ true → length (encoded (values_in xs)) ≤ 508
-image-508 xs e =
-    omega (arith, at_most kinds (values_in xs) e, most-352, encoded-length (values_in xs), length-map xs stored_of, slots-39 xs e)
+pub image-508 : (xs : List (Option Stored)) → kinded kinds (values_in xs) ≡ true → length (encoded (values_in xs)) ≤ 508
+image-508 xs e = omega (arith, image_length xs e, contents-352 xs e)
 
 contents-append : (us vs : List Value) → contents (us ++ vs) ≡ contents us ++ contents vs
 contents-append [] vs = refl
@@ -76,38 +90,29 @@ pub contents-part : (i : ℕ) (vs : List Value) → length (contents (take i vs)
 contents-part i vs =
     omega (arith, ap (λ (x : List Value). length (contents x)) (take-append-drop i vs), ap length (contents-append (take i vs) (drop i vs)), length-append (contents (take i vs)) (contents (drop i vs)))
 
--- the steps of a loop over the slots
-module _ (xs : List Stored) (i : ℕ) (d : Stored) (l : i < length xs) where
-  next-value : take (i + 1) (values_in xs) ≡ take i (values_in xs) ++ stored_of (get_or xs i d) ∷ []
+-- the steps of a loop over the slots, where slot i is s
+module _ (xs : List (Option Stored)) (i : ℕ) (s : Option Stored) (is : s ≡ get_or xs i s) (l : i < length xs) where
+  next-value : take (i + 1) (values_in xs) ≡ take i (values_in xs) ++ slot_of s ∷ []
   next-value =
       take_more (values_in xs) i absent (simp length-map (omega arith))
-      ∙ ap (λ (v : Value). take i (values_in xs) ++ v ∷ []) (sym (slot_at xs i i d refl l))
+      ∙ ap (λ (v : Value). take i (values_in xs) ++ v ∷ []) (sym (slot_at xs i i s refl l) ∙ ap slot_of (sym is))
 
-  pub contents-more : contents (take (i + 1) (values_in xs)) ≡ contents (take i (values_in xs)) ++ content (stored_of (get_or xs i d))
-  contents-more = ap contents next-value ∙ contents-push (take i (values_in xs)) (stored_of (get_or xs i d))
+  pub contents-more : contents (take (i + 1) (values_in xs)) ≡ contents (take i (values_in xs)) ++ content (slot_of s)
+  contents-more = ap contents next-value ∙ contents-push (take i (values_in xs)) (slot_of s)
 
-  pub directory-more : (at : ℕ) → directory at (take (i + 1) (values_in xs)) ≡ directory at (take i (values_in xs)) ++ (be16 (at + length (contents (take i (values_in xs)))) ++ be16 (length (content (stored_of (get_or xs i d)))))
-  directory-more at = ap (directory at) next-value ∙ directory-push at (take i (values_in xs)) (stored_of (get_or xs i d))
+  pub directory-more : (at : ℕ) → directory at (take (i + 1) (values_in xs)) ≡ directory at (take i (values_in xs)) ++ (be16 (at + length (contents (take i (values_in xs)))) ++ be16 (length (content (slot_of s))))
+  directory-more at = ap (directory at) next-value ∙ directory-push at (take i (values_in xs)) (slot_of s)
 
-  pub length_more : length (contents (take (i + 1) (values_in xs))) ≡ length (contents (take i (values_in xs))) + length (content (stored_of (get_or xs i d)))
-  length_more = ap length contents-more ∙ length-append (contents (take i (values_in xs))) (content (stored_of (get_or xs i d)))
+  pub length_more : length (contents (take (i + 1) (values_in xs))) ≡ length (contents (take i (values_in xs))) + length (content (slot_of s))
+  length_more = ap length contents-more ∙ length-append (contents (take i (values_in xs))) (content (slot_of s))
 
-pub all-values : (xs : List Stored) (i : ℕ) → length xs ≤ i → take i (values_in xs) ≡ values_in xs
-all-values xs i l = take_all i (values_in xs) (simp length-map (omega arith))
+pub part-508 : (xs : List (Option Stored)) (i : ℕ) → kinded kinds (values_in xs) ≡ true → 156 + length (contents (take i (values_in xs))) ≤ 508
+part-508 xs i e = omega (arith, contents-part i (values_in xs), contents-352 xs e)
 
-pub part-508 : (xs : List Stored) (i : ℕ) → kinded kinds (values_in xs) ≡ true → 156 + length (contents (take i (values_in xs))) ≤ 508
-part-508 xs i e =
-    omega (arith, contents-part i (values_in xs), image-508 xs e, encoded-length (values_in xs), length-map xs stored_of, slots-39 xs e)
+-- what the loops over the slots use
+pub ruleset content_steps = (contents-more, length_more, contents-part, append_assoc, length-append)
 
-pub pairs-again : (xs : List Stored) (i : ℕ) (d : Stored) (l : i < length xs) (from : ℕ) (w w' : List ℕ) (at size : ℕ) → w' ≡ w ++ (be16 at ++ be16 size) → w ≡ directory from (take i (values_in xs)) → at ≡ from + length (contents (take i (values_in xs))) → size ≡ length (content (stored_of (get_or xs i d))) → w' ≡ directory from (take (i + 1) (values_in xs))
-pairs-again xs i d l from w w' at size e p q r =
-    e ∙ ap (λ (x : List ℕ). x ++ (be16 at ++ be16 size)) p
-    ∙ ap (λ (n : ℕ). directory from (take i (values_in xs)) ++ (be16 n ++ be16 size)) q
-    ∙ ap (λ (n : ℕ). directory from (take i (values_in xs)) ++ (be16 (from + length (contents (take i (values_in xs)))) ++ be16 n)) r
-    ∙ sym (directory-more xs i d l from)
+pub ruleset pair_steps = (directory-more, length_more, part-508, directory-length, length-take, slots-39)
 
-pub contents-again : (xs : List Stored) (i : ℕ) (d : Stored) (l : i < length xs) (start w w' : List ℕ) → w' ≡ w ++ content (stored_of (get_or xs i d)) → w ≡ start ++ contents (take i (values_in xs)) → w' ≡ start ++ contents (take (i + 1) (values_in xs))
-contents-again xs i d l start w w' e p =
-    e ∙ ap (λ (x : List ℕ). x ++ content (stored_of (get_or xs i d))) p
-    ∙ append_assoc start (contents (take i (values_in xs))) (content (stored_of (get_or xs i d)))
-    ∙ ap (λ (x : List ℕ). start ++ x) (sym (contents-more xs i d l))
+-- what the whole image is made of
+pub ruleset image_parts = (image_length, encoded_is, directory-length, length-append)

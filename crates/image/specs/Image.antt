@@ -68,8 +68,12 @@ abbrev pub after : Value → Option (List Value) → Option (List Value)
 after v None = None
 after v (Some vs) = Some (v ∷ vs)
 
+-- whether a pair of this offset and length is one of a cell of this kind, whose contents are to start at `at`, with so many bytes left
+abbrev pub agrees : Kind → (offset size at left : ℕ) → Bool
+agrees k offset size at left = offset == at && (sized k size && nat_le size left)
+
 abbrev pub lawful : Kind → ℕ → List ℕ → List ℕ → Bool
-lawful k at ps cs = from16 ps 0 == at && (sized k (from16 ps 2) && nat_le (from16 ps 2) (length cs))
+lawful k at ps cs = agrees k (from16 ps 0) (from16 ps 2) at (length cs)
 
 -- cells of these kinds, from the pairs ps and the contents cs, which start at `at`
 abbrev pub parse : List Kind → ℕ → List ℕ → List ℕ → Option (List Value)

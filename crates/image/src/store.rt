@@ -3,19 +3,19 @@ ghost use Rattle.std.specs.Prelude.{◌≡◌, ◌≤◌, true, ◌++◌, length
 ghost use Rattle.std.proofs.Common.{◌∙◌};
 ghost use Rattle.cells.specs.Contents.{Wrote, Saved, Reloaded};
 ghost use Rattle.cells.specs.Directory.{kinds};
-ghost use Rattle.cells.specs.Values.{number, mask, spoken};
-ghost use Rattle.cells.specs.declared.roles.Kind.TheVariants.{Number, Mask, Text as Words};
-ghost use Rattle.grammar.specs.Texts.{bytes_of};
+ghost use Rattle.cells.specs.Values.{stored_of, stored_kind};
 ghost use Rattle.image.specs.Image.{encoded, decoded, Means};
 ghost use Rattle.image.specs.Stores.{working_of, bytes_in, image_contents};
 ghost use Rattle.cells.specs.Sorts.{values-39, kinds-39};
 ghost use Rattle.image.specs.Format.{decoded-length};
 
 use crate::read::read_cells;
-use crate::sink::Scratch;
 use crate::write::{image_len, write_image};
-use cells::{CellArray, CellStore, Unable};
-use grammar::Text;
+use cells::{CellArray, CellStore, Stored, Unable};
+use grammar::Bytes;
+
+// Room for every image: the longest has 508 bytes.
+const IMAGE_ROOM: usize = 640;
 
 #[derive(Drop)]
 pub struct ImageStore {
@@ -54,8 +54,7 @@ fn overlay(image: &mut [u8], made: &[u8])
     requires { length made.now ≤ length image.old }
     ensures after { image.new ≡ made.now ++ drop (length made.now) image.old }
 {
-    let n = made.len();
-    image[0..n].copy_from_slice(made);
+    image[..made.len()].copy_from_slice(made);
 }
 
 impl CellStore for ImageStore {
@@ -67,55 +66,35 @@ impl CellStore for ImageStore {
           saved = decoded-length kinds s.image.items ∙ kinds-39;
         } };
 
-    fn number(&self, cell: u32) -> Option<i64> {
-        self.working.number(cell)
+    // Both stores pass reads and writes on to their array. A generic store over what it saves into would need a trait
+    // of three calls with laws of their own to save these two lines.
+    fn get(&self, cell: u32) -> Option<Stored> {
+        self.working.get(cell)
     }
 
-    fn mask(&self, cell: u32) -> Option<u32> {
-        self.working.mask(cell)
-    }
-
-    fn text(&self, cell: u32) -> Text {
-        self.working.text(cell)
-    }
-
-    fn set_number(&mut self, cell: u32, value: i64)
-        ensures after { Wrote Number cell (number value) (image_contents self.old) (image_contents self.new) }
+    fn set(&mut self, cell: u32, value: Stored)
+        ensures after { Wrote (stored_kind value) cell (stored_of value) (image_contents self.old) (image_contents self.new) }
         ensures bytes { bytes_in self.new ≡ bytes_in self.old }
     {
-        self.working.set_number(cell, value);
-    }
-
-    fn set_mask(&mut self, cell: u32, value: u32)
-        ensures after { Wrote Mask cell (mask value) (image_contents self.old) (image_contents self.new) }
-        ensures bytes { bytes_in self.new ≡ bytes_in self.old }
-    {
-        self.working.set_mask(cell, value);
-    }
-
-    fn set_text(&mut self, cell: u32, value: Text)
-        ensures after { Wrote Words cell (spoken (bytes_of value)) (image_contents self.old) (image_contents self.new) }
-        ensures bytes { bytes_in self.new ≡ bytes_in self.old }
-    {
-        self.working.set_text(cell, value);
+        self.working.set(cell, value);
     }
 
     fn is_able(&self) -> bool {
-        image_len(self.working.as_slice()) <= self.image.len()
+        image_len(&self.working) <= self.image.len()
     }
 
-    // The image is made in a scratch of 640 bytes, then copied to the front of the bytes; the rest stays.
+    // The image is made aside, then copied to the front of the bytes; the rest stays.
     fn save(&mut self) -> Result<(), Unable>
         ensures after { Saved (is_ok result) (image_contents self.old) (image_contents self.new) }
         ensures bytes { bytes_in self.new ≡ (if is_ok result then encoded (working_of self.old) ++ drop (length (encoded (working_of self.old))) (bytes_in self.old) else bytes_in self.old) }
         ensures back { is_ok result ≡ true → Means kinds (bytes_in self.new) (working_of self.old) }
     {
-        if image_len(self.working.as_slice()) > self.image.len() {
+        if image_len(&self.working) > self.image.len() {
             return Err(Unable);
         }
-        let mut scratch = Scratch::new();
-        write_image(self.working.as_slice(), &mut scratch);
-        overlay(self.image.as_mut_slice(), scratch.as_bytes());
+        let mut made = Bytes::<IMAGE_ROOM>::absent();
+        write_image(&self.working, &mut made);
+        overlay(self.image.as_mut_slice(), made.as_bytes());
         Ok(())
     }
 

@@ -1,6 +1,6 @@
 // Images by their bytes.
 use super::*;
-use cells::{CellStore, CellValue, Ratings, Span, read_cell};
+use cells::{CellStore, Ratings, Span, Stored, read_cell};
 use grammar::{Quantity, Text};
 use std::test::Fail;
 
@@ -15,9 +15,9 @@ fn fill(store: &mut ImageStore) -> Result<(), Fail> {
         return Err(Fail::new("24 bytes are a text"));
     };
     for cell in 0..128u32 {
-        store.set_number(cell, -1);
-        store.set_mask(cell, 1);
-        store.set_text(cell, longest);
+        store.set(cell, Stored::Number(-1));
+        store.set(cell, Stored::Mask(1));
+        store.set(cell, Stored::Text(longest));
     }
     Ok(())
 }
@@ -38,11 +38,11 @@ fn room(rt: HostRuntime) -> Result<(), Fail> {
 #[test]
 fn saved_and_damaged(rt: HostRuntime) -> Result<(), Fail> {
     let mut store = blank(&rt, 200)?;
-    store.set_number(100, -2);
+    store.set(100, Stored::Number(-2));
     store.save()?;
-    store.set_number(100, 7);
+    store.set(100, Stored::Number(7));
     store.reload();
-    assert_eq!(rt; store.number(100), Some(-2));
+    assert_eq!(rt; store.get(100).and_then(Stored::number), Some(-2));
     let mut bytes = store.into_bytes();
     assert!(rt; bytes.len() == 200);
     // The pair of cell 100 says offset 156 and length 8, and its contents are eight bytes, high byte first.
@@ -54,7 +54,7 @@ fn saved_and_damaged(rt: HostRuntime) -> Result<(), Fail> {
     // A wrong offset in the last pair, that of cell 127, means that every cell is absent.
     bytes[153] = 0;
     let damaged = ImageStore::new(bytes);
-    assert_eq!(rt; damaged.number(100), None);
+    assert_eq!(rt; damaged.get(100).and_then(Stored::number), None);
     Ok(())
 }
 
@@ -69,35 +69,18 @@ fn unlawful_values(rt: HostRuntime) -> Result<(), Fail> {
         voltage: ten,
     };
     let mut store = blank(&rt, 300)?;
-    store.set_number(11, 10_000_001);
-    store.set_mask(90, 4);
+    store.set(11, Stored::Number(10_000_001));
+    store.set(90, Stored::Mask(4));
     store.save()?;
     let again = ImageStore::new(store.into_bytes());
-    assert_eq!(rt; again.number(11), Some(10_000_001));
+    assert_eq!(rt; again.get(11).and_then(Stored::number), Some(10_000_001));
     assert_eq!(rt;
-        number_in(read_cell(&again, 11, &ratings)),
+        read_cell(&again, 11, &ratings).and_then(|value| Stored::from(value).number()),
         Some(10_000_000)
     );
-    assert_eq!(rt; mask_in(read_cell(&again, 90, &ratings)), Some(0));
+    assert_eq!(rt;
+        read_cell(&again, 90, &ratings).and_then(|value| Stored::from(value).mask()),
+        Some(0)
+    );
     Ok(())
-}
-
-fn number_in(value: Option<CellValue>) -> Option<i64> {
-    let Some(value) = value else {
-        return None;
-    };
-    match value {
-        CellValue::Number(q) => Some(q.millionths()),
-        _ => None,
-    }
-}
-
-fn mask_in(value: Option<CellValue>) -> Option<u32> {
-    let Some(value) = value else {
-        return None;
-    };
-    match value {
-        CellValue::Mask(m) => Some(m),
-        _ => None,
-    }
 }

@@ -1,23 +1,28 @@
 // Writing the image of cells: a pair of offset and length for each, then the contents.
-ghost use Rattle.std.specs.Prelude.{◌≡◌, ◌+◌, ◌<◌, ◌≤◌, true, [], ◌++◌, length};
-ghost use Rattle.cells.specs.Directory.{kinds};
-ghost use Rattle.cells.specs.Kinded.{kinded, values_in};
-ghost use Rattle.cells.specs.Values.{stored_of};
+ghost use Rattle.std.specs.Prelude.{◌≡◌, ◌+◌, ◌<◌, ◌≤◌, [], ◌++◌, length};
+ghost use Rattle.cells.specs.Kinded.{values_in};
+ghost use Rattle.cells.specs.Values.{slot_of, stored_of};
 ghost use Rattle.image.specs.Image.{be16, content, contents, directory, encoded};
 
 use crate::sink::Sink;
-use cells::Stored;
+use cells::{CELL_COUNT, CellArray, Stored};
 
 // Where the contents start: after the pairs, of four bytes each.
-pub(crate) const CONTENTS: usize = 156;
+pub(crate) const CONTENTS: usize = 4 * CELL_COUNT;
 
-// The number of bytes of a value.
-fn size_of(stored: &Stored) -> usize
-    ensures value { result ≡ length (content (stored_of stored.now)) }
+// The number of bytes of what there is in a slot.
+fn size_of(slot: &Option<Stored>) -> usize
+    ensures value { result ≡ length (content (slot_of slot.now)) }
     ensures bound { result ≤ 24 }
 {
-    match stored {
-        Stored::Absent => 0,
+    slot.map_or(0, size_of_value)
+}
+
+fn size_of_value(value: Stored) -> usize
+    ensures value { result ≡ length (content (stored_of value)) }
+    ensures bound { result ≤ 24 }
+{
+    match value {
         Stored::Number(_) => 8,
         Stored::Mask(_) => 4,
         Stored::Text(text) => text.as_bytes().len(),
@@ -25,26 +30,37 @@ fn size_of(stored: &Stored) -> usize
 }
 
 // The length of the image.
-pub(crate) fn image_len(slots: &[Stored]) -> usize
-    requires { kinded kinds (values_in slots.now) ≡ true }
-    ensures value { result ≡ length (encoded (values_in slots.now)) }
+#[tactic(auto, using(crate::proofs::Writing::image_length))]
+pub(crate) fn image_len(cells: &CellArray) -> usize
+    ensures value { result ≡ length (encoded (values_in cells.now.slots)) }
 {
-    let mut n = CONTENTS;
-    for i in 0..slots.len() {
-        let slot = &slots[i];
-        n += size_of(slot);
-    }
-    n
+    CONTENTS + contents_len(cells)
 }
 
-// Writes the bytes of a value.
-fn write_stored<S: Sink>(stored: &Stored, out: &mut S)
-    requires { length (S.written out.old) + length (content (stored_of stored.now)) ≤ S.room out.old }
-    ensures written { S.written out.new ≡ S.written out.old ++ content (stored_of stored.now) }
+fn contents_len(cells: &CellArray) -> usize
+    ensures value { result ≡ length (contents (values_in cells.now.slots)) }
+    ensures bound { result ≤ 352 }
+{
+    cells.as_slice().iter().map(size_of).sum()
+}
+
+// Writes the bytes of what there is in a slot.
+fn write_slot<S: Sink>(slot: &Option<Stored>, out: &mut S)
+    requires { length (S.written out.old) + length (content (slot_of slot.now)) ≤ S.room out.old }
+    ensures written { S.written out.new ≡ S.written out.old ++ content (slot_of slot.now) }
     ensures room { S.room out.new ≡ S.room out.old }
 {
-    match stored {
-        Stored::Absent => {}
+    if let Some(value) = *slot {
+        write_value(value, out);
+    }
+}
+
+fn write_value<S: Sink>(value: Stored, out: &mut S)
+    requires { length (S.written out.old) + length (content (stored_of value)) ≤ S.room out.old }
+    ensures written { S.written out.new ≡ S.written out.old ++ content (stored_of value) }
+    ensures room { S.room out.new ≡ S.room out.old }
+{
+    match value {
         Stored::Number(v) => out.push(&v.to_be_bytes()),
         Stored::Mask(m) => out.push(&m.to_be_bytes()),
         Stored::Text(text) => out.push(text.as_bytes()),
@@ -65,16 +81,16 @@ fn write_pair<S: Sink>(at: usize, size: usize, out: &mut S)
 }
 
 // Writes the pairs of the cells.
-fn write_pairs<S: Sink>(slots: &[Stored], out: &mut S)
-    requires kind { kinded kinds (values_in slots.now) ≡ true }
+#[tactic(auto, using(crate::proofs::Writing::pair_steps))]
+fn write_pairs<S: Sink>(cells: &CellArray, out: &mut S)
     requires empty { S.written out.old ≡ [] }
     requires space { 156 ≤ S.room out.old }
-    ensures written { S.written out.new ≡ directory 156 (values_in slots.now) }
+    ensures written { S.written out.new ≡ directory 156 (values_in cells.now.slots) }
     ensures room { S.room out.new ≡ S.room out.old }
 {
+    let slots = cells.as_slice();
     let mut at = CONTENTS;
-    for i in 0..slots.len() {
-        let slot = &slots[i];
+    for slot in slots {
         let size = size_of(slot);
         write_pair(at, size, out);
         at += size;
@@ -82,26 +98,26 @@ fn write_pairs<S: Sink>(slots: &[Stored], out: &mut S)
 }
 
 // Writes the contents of the cells.
-fn write_contents<S: Sink>(slots: &[Stored], out: &mut S)
-    requires kind { kinded kinds (values_in slots.now) ≡ true }
-    requires space { length (S.written out.old) + length (contents (values_in slots.now)) ≤ S.room out.old }
-    ensures written { S.written out.new ≡ S.written out.old ++ contents (values_in slots.now) }
+#[tactic(auto, using(crate::proofs::Writing::content_steps))]
+fn write_contents<S: Sink>(cells: &CellArray, out: &mut S)
+    requires space { length (S.written out.old) + length (contents (values_in cells.now.slots)) ≤ S.room out.old }
+    ensures written { S.written out.new ≡ S.written out.old ++ contents (values_in cells.now.slots) }
     ensures room { S.room out.new ≡ S.room out.old }
 {
-    for i in 0..slots.len() {
-        let slot = &slots[i];
-        write_stored(slot, out);
+    let slots = cells.as_slice();
+    for slot in slots {
+        write_slot(slot, out);
     }
 }
 
 // Writes the image.
-pub(crate) fn write_image<S: Sink>(slots: &[Stored], out: &mut S)
-    requires kind { kinded kinds (values_in slots.now) ≡ true }
+#[tactic(auto, using(crate::proofs::Writing::image_parts))]
+pub(crate) fn write_image<S: Sink>(cells: &CellArray, out: &mut S)
     requires empty { S.written out.old ≡ [] }
-    requires space { length (encoded (values_in slots.now)) ≤ S.room out.old }
-    ensures written { S.written out.new ≡ encoded (values_in slots.now) }
+    requires space { length (encoded (values_in cells.now.slots)) ≤ S.room out.old }
+    ensures written { S.written out.new ≡ encoded (values_in cells.now.slots) }
     ensures room { S.room out.new ≡ S.room out.old }
 {
-    write_pairs(slots, out);
-    write_contents(slots, out);
+    write_pairs(cells, out);
+    write_contents(cells, out);
 }

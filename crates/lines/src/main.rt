@@ -5,10 +5,9 @@ ghost use Rattle.std.specs.Prelude.{◌≡◌};
 ghost use Rattle.power.specs.Magnets.{magnet_meaning};
 ghost use Rattle.power.specs.Meaning.{low, high};
 
-use cells::{Ratings, Span};
+use cells::Ratings;
 use grammar::Text;
 use judging::judge;
-use phrases::{describe, reason};
 use power::{Loop, Magnet, PowerModule};
 use request::{Access, Circumstances, Control, Origin};
 use std::io;
@@ -70,14 +69,12 @@ fn introduce(rt: &HostRuntime) -> io::Result<()> {
 
 fn show_line(rt: &HostRuntime, typed: &str, c: &Circumstances) -> io::Result<()> {
     match judge(typed.as_bytes(), c) {
-        Ok(request) => {
-            let asked = describe(rt.alloc(), &request)?;
-            println!(rt; "  '{typed}' asks: {asked}.")
-        }
+        Ok(request) => println!(rt; "  '{typed}' asks: {request}."),
         Err(refusal) => {
-            let number = refusal.number();
-            let ground = reason(refusal);
-            println!(rt; "  '{typed}' is refused with {number:02}: {ground}.")
+            println!(rt;
+                "  '{typed}' is refused with {:02}: {refusal}.",
+                refusal.number()
+            )
         }
     }
 }
@@ -88,8 +85,8 @@ fn circumstances_of(magnet: &Magnet) -> Circumstances
     ensures present { result.present ≡ (magnet_meaning magnet.now).loop }
 {
     let rated = Ratings {
-        current: span_of(magnet, Loop::I),
-        voltage: span_of(magnet, Loop::V),
+        current: magnet.rated(Loop::I),
+        voltage: magnet.rated(Loop::V),
     };
     Circumstances {
         origin: Origin::Socket,
@@ -102,17 +99,6 @@ fn circumstances_of(magnet: &Magnet) -> Circumstances
         rated,
         limits: rated,
         able: true,
-        sensors: Magnet::sensor_count(),
-    }
-}
-
-// The rated span of a loop.
-fn span_of(magnet: &Magnet, of: Loop) -> Span
-    ensures lowest { result.low.millionths ≡ low (magnet_meaning magnet.now).ratings of }
-    ensures highest { result.high.millionths ≡ high (magnet_meaning magnet.now).ratings of }
-{
-    Span {
-        low: magnet.rated_low(of),
-        high: magnet.rated_high(of),
+        sensors: Magnet::SENSORS,
     }
 }

@@ -1,3 +1,4 @@
+pub mod Loops
 pub mod Meaning
 pub mod Rated
 pub mod Settings

@@ -1,18 +1,22 @@
 -- The magnet model: how its current moves, and what its readings are. Assumes nothing.
-use Rattle.std.specs.Prelude.{ℕ, zero, suc, ◌+◌, ◌*◌, ◌≤◌, cond, [], ◌∷◌, ℤ, pos, ◌+ℤ◌, ◌-ℤ◌, ◌≤ℤ◌, int_div, nat_lt, unsigned_abs}
+use Rattle.std.specs.Prelude.{Bool, ℕ, zero, suc, ◌+◌, ◌*◌, ◌≤◌, cond, [], ◌∷◌, ℤ, pos, ◌+ℤ◌, ◌-ℤ◌, ◌≤ℤ◌, int_div, nat_lt, unsigned_abs}
 use Rattle.power.specs.Meaning.{Readings, Meaning}
-use Rattle.power.specs.Settings.{at, start}
+use Rattle.power.specs.Settings.{supply_meaning, start}
 use Rattle.power.specs.declared.loops.Loop.{Loop}
 use Rattle.power.specs.declared.loops.Loop.TheVariants.{I, V}
-use Rattle.power.specs.declared.magnet.Magnet.{Magnet}
+use Rattle.power.specs.declared.magnet.Coil.{Coil}
+use Rattle.power.specs.declared.supply.Supply.{Supply}
 
 -- the current to which the magnet moves: the demand in loop I, half of it in loop V, rounded to zero; 0 while off
 abbrev pub goal_in : Loop → ℤ → ℤ
 goal_in I demand = demand
 goal_in V demand = int_div demand (pos 2)
 
+abbrev pub goal_from : Bool → Loop → ℤ → ℤ
+goal_from on l demand = cond on (goal_in l demand) (pos 0)
+
 abbrev pub goal : Meaning → ℤ
-goal m = cond m.on (goal_in m.loop m.demand) (pos 0)
+goal m = goal_from m.on m.loop m.demand
 
 -- one advance: a sixteenth of the way to the goal, rounded to zero
 abbrev pub moved : ℤ → ℤ → ℤ
@@ -30,8 +34,11 @@ heat_line c = cond (nat_lt 80000000 (heat c)) 0x100000 0
 abbrev pub readings_at : ℤ → Readings
 readings_at c = record { lines = heat_line c; current = c; voltage = c +ℤ c; temperatures = pos (heat c) ∷ [] }
 
-abbrev pub magnet_meaning : Magnet → Meaning
-magnet_meaning m = at m.setting (readings_at m.current.millionths)
+abbrev pub coil_readings : Coil → Readings
+coil_readings c = readings_at c.current.millionths
+
+abbrev pub magnet_meaning : Supply Coil → Meaning
+magnet_meaning = supply_meaning coil_readings
 
 -- off, loop I, demand 0, current 0
 abbrev pub magnet_start : Meaning

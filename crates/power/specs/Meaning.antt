@@ -48,14 +48,18 @@ pub record Span (low high : ℤ) : Type 0 where
   pub low_zero : low ≤ℤ pos 0
   pub zero_high : pos 0 ≤ℤ high
 
--- no line but a trip line, all quantities in range, a temperature for each sensor, zero inside each rated span
+-- no line but a trip line, all quantities in range, a temperature for each sensor
+pub record Sound (sensors : ℕ) (r : Readings) : Type 0 where
+  pub lines : bit_and r.lines trip_lines ≡ r.lines
+  pub current : Ranged r.current
+  pub voltage : Ranged r.voltage
+  pub sensed : length r.temperatures ≡ sensors
+  pub temperatures : AllByRecursion Ranged r.temperatures
+
+-- sound readings, the demand in range too, and zero inside each rated span
 pub record Lawful (sensors : ℕ) (m : Meaning) : Type 0 where
   pub demand : Ranged m.demand
-  pub lines : bit_and m.readings.lines trip_lines ≡ m.readings.lines
-  pub current : Ranged m.readings.current
-  pub voltage : Ranged m.readings.voltage
-  pub sensed : length m.readings.temperatures ≡ sensors
-  pub temperatures : AllByRecursion Ranged m.readings.temperatures
+  pub readings : Sound sensors m.readings
   pub span_i : Span m.ratings.low_i m.ratings.high_i
   pub span_v : Span m.ratings.low_v m.ratings.high_v
 

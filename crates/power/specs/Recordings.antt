@@ -2,16 +2,17 @@
 use Rattle.std.specs.Prelude.{ℕ, ◌+◌, min, List, [], ◌∷◌, length, ℤ, pos, vec_items, bit_and, slice_index_or}
 use Rattle.grammar.specs.Range.{clamp}
 use Rattle.power.specs.Meaning.{Readings, Meaning, trip_lines}
-use Rattle.power.specs.Settings.{at, start}
+use Rattle.power.specs.Settings.{supply_meaning, start}
 use Rattle.power.specs.declared.recording.Record.{Record}
-use Rattle.power.specs.declared.recording.Recording.{Recording}
+use Rattle.power.specs.declared.recording.Tape.{Tape}
+use Rattle.power.specs.declared.supply.Supply.{Supply}
 
 -- the reading of one sensor of a record, kept in range
 abbrev pub sensed : List ℤ → ℕ → ℤ
 sensed ts k = clamp (slice_index_or ts k (pos 0))
 
 -- the readings of a record: no line but the trip lines, and every quantity kept in range
-unfoldable pub readings_of : Record → Readings
+abbrev pub readings_of : Record → Readings
 readings_of r = record {
   lines = bit_and r.lines trip_lines;
   current = clamp r.current;
@@ -27,15 +28,19 @@ blank = record { lines = 0; current = pos 0; voltage = pos 0; temperatures = [] 
 abbrev pub shown_of : List Record → ℕ → Readings
 shown_of rs k = readings_of (slice_index_or (blank ∷ rs) k blank)
 
+-- the readings of the record that a tape shows
+abbrev pub tape_readings : Tape → Readings
+tape_readings t = shown_of (vec_items t.records) t.place
+
 -- the records of a recording, and the number of the one that it shows
-abbrev pub records_of : Recording → List Record
-records_of r = vec_items r.records
+abbrev pub records_of : Supply Tape → List Record
+records_of r = vec_items r.plant.records
 
-abbrev pub place_of : Recording → ℕ
-place_of r = r.place
+abbrev pub place_of : Supply Tape → ℕ
+place_of r = r.plant.place
 
-abbrev pub recording_meaning : Recording → Meaning
-recording_meaning r = at r.setting (shown_of (records_of r) (place_of r))
+abbrev pub recording_meaning : Supply Tape → Meaning
+recording_meaning = supply_meaning tape_readings
 
 -- off, loop I, demand 0, all readings zero
 abbrev pub recording_start : Meaning

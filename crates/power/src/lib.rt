@@ -5,15 +5,20 @@ pub mod loops;
 pub mod magnet;
 pub mod modules;
 pub mod operation;
+pub mod plant;
 mod ratings;
 pub mod recording;
-mod setting;
+pub mod setting;
+pub mod supply;
 
 pub use loops::Loop;
-pub use magnet::Magnet;
+pub use magnet::{Coil, Magnet};
 pub use modules::{PowerModule, Refused};
 pub use operation::{rest, start};
-pub use recording::{Record, Recording};
+pub use plant::Plant;
+pub use recording::{Record, Recording, Tape};
+pub use setting::Setting;
+pub use supply::Supply;
 
 #[cfg(test)]
 mod tests;

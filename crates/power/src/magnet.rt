@@ -2,15 +2,22 @@
 // Its current stays within 20 A: that comes with the value.
 ghost use Rattle.std.specs.Prelude.{ℤ, pos, negsuc, ◌≤ℤ◌};
 
-use crate::setting::Setting;
-use grammar::Quantity;
+use crate::supply::Supply;
 
+pub type Magnet = Supply<Coil>;
+
+// The coil of a magnet, known by its current.
 #[derive(Drop)]
-pub struct Magnet {
-    setting: Setting,
-    current: Quantity,
-    ghost least: { negsuc 19999999 ≤ℤ current.millionths },
-    ghost most: { current.millionths ≤ℤ pos 20000000 },
+pub struct Coil {
+    current: Current,
+}
+
+// A current within 20 A either way.
+#[derive(Clone, Copy)]
+struct Current {
+    millionths: i64,
+    ghost least: { negsuc 19999999 ≤ℤ millionths },
+    ghost most: { millionths ≤ℤ pos 20000000 },
 }
 
 mod methods;

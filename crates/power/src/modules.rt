@@ -3,7 +3,7 @@ ghost use Rattle.std.specs.Prelude.{◌≡◌, ℕ, is_ok};
 ghost use Rattle.power.specs.Meaning.{Meaning, Counted, Lawful, switched_on, switched_off, may_choose, chosen, applies, applied, advanced, temperature_at, low, high};
 
 use crate::loops::Loop;
-use grammar::Quantity;
+use grammar::{Quantity, Span};
 
 // A call that the module refused, and that changed nothing.
 #[derive(Clone, Copy, PartialEq, Eq, Debug)]
@@ -15,13 +15,9 @@ pub trait PowerModule {
     // How many temperature sensors the module has, 1 to 8.
     const SENSORS: u8;
 
+    ghost SENSORS: { ℕ };
+
     ghost meaning: { Self → Meaning };
-
-    // The same number, for clauses to speak of.
-    ghost sensors: { ℕ };
-
-    fn sensor_count() -> u8
-        ensures value { result ≡ sensors };
 
     fn switch_on(&mut self)
         ensures after { meaning self.new ≡ switched_on (meaning self.old) };
@@ -67,13 +63,12 @@ pub trait PowerModule {
     fn temperature(&self, sensor: u8) -> Quantity
         ensures value { result.millionths ≡ temperature_at (meaning self.now).readings sensor };
 
-    fn rated_low(&self, of: Loop) -> Quantity
-        ensures value { result.millionths ≡ low (meaning self.now).ratings of };
+    // What may be applied in this loop, ends included.
+    fn rated(&self, of: Loop) -> Span
+        ensures low { result.low.millionths ≡ low (meaning self.now).ratings of }
+        ensures high { result.high.millionths ≡ high (meaning self.now).ratings of };
 
-    fn rated_high(&self, of: Loop) -> Quantity
-        ensures value { result.millionths ≡ high (meaning self.now).ratings of };
+    ghost counted: { Counted SENSORS };
 
-    ghost counted: { Counted sensors };
-
-    ghost lawful: { (m : Self) → Lawful sensors (meaning m) };
+    ghost lawful: { (m : Self) → Lawful SENSORS (meaning m) };
 }

@@ -13,10 +13,7 @@ pub fn start<M: PowerModule>(target: &mut M, choice: Loop, demand: Quantity) -> 
     ensures after { M.meaning target.new ≡ (if rated (M.meaning target.old).ratings choice demand.millionths then started (M.meaning target.old) choice demand.millionths else M.meaning target.old) }
     ensures untouched { is_ok result ≡ false → target.new ≡ target.old }
 {
-    if demand.millionths() < target.rated_low(choice).millionths() {
-        return Err(Refused);
-    }
-    if demand.millionths() > target.rated_high(choice).millionths() {
+    if !target.rated(choice).contains(demand) {
         return Err(Refused);
     }
     target.switch_off();

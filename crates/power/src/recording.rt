@@ -2,7 +2,9 @@
 // It shows one of its records, or none yet: that comes with the value.
 ghost use Rattle.std.specs.Prelude.{◌≤◌, vec_len};
 
-use crate::setting::Setting;
+use crate::supply::Supply;
+
+pub type Recording = Supply<Tape>;
 
 // Lines and readings of one millisecond as they were stored, in millionths, in range or not.
 #[derive(Clone, Copy, Debug)]
@@ -15,8 +17,7 @@ pub struct Record {
 
 // `place` is the number of the record shown, counted from 1, and 0 before the first advance.
 #[derive(Drop)]
-pub struct Recording {
-    setting: Setting,
+pub struct Tape {
     records: Vec<Record>,
     place: usize,
     ghost within: { place ≤ vec_len records },

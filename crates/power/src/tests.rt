@@ -71,6 +71,6 @@ fn recording(rt: HostRuntime) -> Result<(), Fail> {
     tape.advance_by(5);
     assert_eq!(rt; tape.live_lines(), 0);
     assert_eq!(rt; tape.current().millionths(), 7);
-    assert_eq!(rt; Recording::sensor_count(), 4);
+    assert_eq!(rt; Recording::SENSORS, 4);
     Ok(())
 }

@@ -1,21 +1,18 @@
 -- The texts of replies. Assumes nothing.
-use Rattle.std.specs.Prelude.{ℕ, List, [], ◌∷◌, ◌++◌, take, ℤ, codes}
+use Rattle.std.specs.Prelude.{ℕ, List, [], ◌∷◌, ◌++◌, ℤ, codes}
 use Rattle.cells.specs.Values.{Value, absent, number, mask, text}
 use Rattle.grammar.specs.Masks.{printed_mask}
 use Rattle.grammar.specs.Numbers.{printed}
 use Rattle.grammar.specs.Numerals.{numeral}
 use Rattle.grammar.specs.Texts.{bytes_of}
 use Rattle.power.specs.declared.loops.Loop.{Loop}
-use Rattle.power.specs.declared.loops.Loop.TheVariants.{I, V}
+use Rattle.power.specs.Loops.{loop_text}
+use Rattle.request.specs.Asking.{asking}
 use Rattle.request.specs.Commands.{name_of}
 use Rattle.request.specs.Refusals.{line_number, two_digits}
 use Rattle.request.specs.declared.circumstances.Access.{Access}
 use Rattle.request.specs.declared.circumstances.Access.TheVariants.{User, Admin}
-use Rattle.request.specs.declared.commands.Command.{Command}
-use Rattle.request.specs.declared.commands.Command.TheVariants.{Loop as LOOP, Mwi, Mwir, Mwv, Mwvr, Msri, Msrv, Password, Mst, Mri, Mrv, Ver, Mrid, Mrg, Mrt}
 use Rattle.request.specs.declared.refusals.LineRefusal.{LineRefusal}
-use Rattle.request.specs.declared.requests.Approach.{Approach}
-use Rattle.request.specs.declared.requests.Approach.TheVariants.{AtOnce, Ramp}
 use Rattle.request.specs.declared.requests.Question.{Question}
 use Rattle.request.specs.declared.requests.Question.TheVariants.{Status, PresentLoop, Target, Rate, Current, Voltage, Version, Identification, Access as Level, Cell as OfCell, Hottest, SensorCount, Sensor}
 use Rattle.replies.specs.declared.answers.Answer.{Answer}
@@ -24,7 +21,7 @@ use Rattle.replies.specs.declared.reply.Reply.{Reply}
 
 -- the bytes that a reply holds
 abbrev pub text_of : Reply → List ℕ
-text_of r = take r.len r.bytes
+text_of r = bytes_of r.0
 
 -- every reply ends in CR LF
 abbrev pub ended : List ℕ → List ℕ
@@ -39,31 +36,6 @@ abbrev pub nak_text : LineRefusal → List ℕ
 nak_text n = ended (codes "#NAK:" ++ two_digits (line_number n))
 
 -- THE ECHO: the command that asks, in upper case, and what it asks for, without the question mark
-
-abbrev pub target_asked : Loop → Approach → Command
-target_asked I AtOnce = Mwi
-target_asked I Ramp = Mwir
-target_asked V AtOnce = Mwv
-target_asked V Ramp = Mwvr
-
-abbrev pub rate_asked : Loop → Command
-rate_asked I = Msri
-rate_asked V = Msrv
-
-abbrev pub asking : Question → Command
-asking Status = Mst
-asking PresentLoop = LOOP
-asking (Target l a) = target_asked l a
-asking (Rate l) = rate_asked l
-asking Current = Mri
-asking Voltage = Mrv
-asking Version = Ver
-asking Identification = Mrid
-asking Level = Password
-asking (OfCell c) = Mrg
-asking Hottest = Mrt
-asking SensorCount = Mrt
-asking (Sensor n) = Mrt
 
 -- an index is echoed without leading zeros
 abbrev pub tail_of : Question → List ℕ
@@ -111,10 +83,6 @@ cell_told absent = a_text []
 cell_told (number v) = a_number v
 cell_told (mask m) = a_mask m
 cell_told (text bs) = a_text bs
-
-abbrev pub loop_text : Loop → List ℕ
-loop_text I = codes "I"
-loop_text V = codes "V"
 
 abbrev pub access_text : Access → List ℕ
 access_text User = codes "USER"

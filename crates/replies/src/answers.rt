@@ -21,11 +21,11 @@ pub enum Answer {
     Access(Access),
 }
 
-impl Answer {
-    // A cell's value.
-    pub fn cell(value: CellValue) -> Answer
-        ensures value { told_of result ≡ cell_told (value_of value) }
-    {
+// A cell's value.
+impl From<CellValue> for Answer {
+    ghost from_gives = { λ value answer. told_of answer ≡ cell_told (value_of value) };
+
+    fn from(value: CellValue) -> Answer {
         match value {
             CellValue::Number(number) => Answer::Number(number),
             CellValue::Mask(mask) => Answer::Mask(mask),

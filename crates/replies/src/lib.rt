@@ -2,6 +2,7 @@
 #![tactic(auto)]
 
 pub mod answers;
+mod parts;
 pub mod reply;
 
 pub use answers::Answer;

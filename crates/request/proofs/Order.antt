@@ -1,25 +1,11 @@
 -- The first ground that holds, as the code comes to it. Assumes nothing.
-use Rattle.std.proofs.Common.{◌≡◌, ℕ, ◌≤◌, Bool, true, false, cond, ltb, List, [], ◌∷◌, Some, None, Ok, Err, Option, Result, refl, ap, ◌∙◌, arith}
-use Rattle.std.proofs.lemmas.Bool.{le-ltb}
+use Rattle.std.proofs.Common.{◌≡◌, ℕ, Bool, true, false, cond, List, [], ◌∷◌, Some, None, Option, refl, ap, ◌∙◌, arith}
 use Rattle.request.specs.Facts.{Facts}
-use Rattle.request.specs.Forms.{form, that}
-use Rattle.request.specs.Grounds.{Ground, of_line, of_request, grounds, first_of, first_of_line, first_of_request, refusal, line_refusal, request_refusal, field_refusal, Reads}
+use Rattle.request.specs.Forms.{that}
+use Rattle.request.specs.Grounds.{Ground, of_line, of_request, grounds, first_of, first_of_line, first_of_request, refusal, line_refusal, request_refusal}
 use Rattle.request.specs.Lines.{Line, parsed, asked}
 use Rattle.request.specs.Requests.{Request}
-use Rattle.request.specs.declared.commands.Command.{Command}
 use Rattle.request.specs.declared.refusals.LineRefusal.{LineRefusal}
-
--- a line that is not too long and has a command with as many fields as it may have
-pub by-fields : (sensors size count : ℕ) (o : Option Command) (f g : List ℕ) (c : Command) → o ≡ Some c → size ≤ 1024 → (form c).fewest ≤ count → count ≤ (form c).most → line_refusal sensors (record { size = size; command = o; count = count; second = f; third = g }) ≡ field_refusal sensors c count f g
-by-fields sensors size count o f g c e short enough few =
-    let a : ltb 1024 size ≡ false = le-ltb _ _ short in
-    let b : ltb count (form c).fewest ≡ false = le-ltb _ _ enough in
-    let d : ltb (form c).most count ≡ false = le-ltb _ _ few in
-    simp (e, a, b, d)
-
-pub carried : {X Y : Type 0} (w : X → Y) (r : Result X LineRefusal) (a b : Option LineRefusal) (x y : Option Y) → a ≡ b → x ≡ y → Reads w b y r → Reads w a x r
-carried w (Ok q) a b x y e d h = (e ∙ h.0, d ∙ h.1)
-carried w (Err n) a b x y e d h = e ∙ h
 
 -- where no ground of the line holds, it is refused as its request is
 passed-by : (b : Bool) (n : LineRefusal) (x y z : Option LineRefusal) → cond b (Some n) x ≡ None → (x ≡ None → y ≡ z) → cond b (Some n) y ≡ z

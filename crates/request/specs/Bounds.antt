@@ -1,6 +1,7 @@
 -- A low and a high for each loop, in millionths. Assumes nothing.
 use Rattle.std.specs.Prelude.{Bool, false, ℤ, pos}
-use Rattle.cells.specs.Values.{Value, absent, number, mask, text, spans}
+use Rattle.cells.specs.Values.{Value, absent, number, mask, text}
+use Rattle.grammar.specs.Range.{spans}
 use Rattle.cells.specs.declared.ratings.Ratings.{Ratings}
 use Rattle.cells.specs.declared.roles.Role.{Role}
 use Rattle.cells.specs.declared.roles.Role.TheVariants.{Model, Identification, LowI, HighI, LowV, HighV, RateI, RateV, Password, InterlockEnable, InterlockActivation, Operator}

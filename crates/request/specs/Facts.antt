@@ -1,7 +1,7 @@
 -- The facts on which it depends whether a request is accepted, in plain values. Assumes nothing.
 use Rattle.std.specs.Prelude.{ℕ, Bool, true, false, List, ℤ}
 use Rattle.request.specs.Bounds.{Bounds, bounds_of}
-use Rattle.cells.specs.Values.{spans}
+use Rattle.grammar.specs.Range.{spans}
 use Rattle.grammar.specs.Texts.{bytes_of}
 use Rattle.power.specs.declared.loops.Loop.{Loop}
 use Rattle.power.specs.declared.loops.Loop.TheVariants.{I, V}

@@ -1,18 +1,21 @@
 -- THE TABLE OF REFUSALS: on which ground a line is refused. Assumes nothing.
-use Rattle.std.specs.Prelude.{◌≡◌, ℕ, Bool, true, false, cond, not, ◌&&◌, ◌||◌, ltb, List, [], ◌∷◌, drop, pos, is_some, Some, None, Ok, Err, codes, Option, Result, int_lt, nat_lt}
+use Rattle.std.specs.Prelude.{◌≡◌, ℕ, Bool, true, false, cond, not, ◌&&◌, ◌||◌, ltb, List, [], ◌∷◌, drop, ℤ, pos, is_some, Some, None, Ok, Err, codes, Option, Result, int_lt, nat_lt}
 use Rattle.request.specs.Bounds.{lawful_limit}
 use Rattle.cells.specs.Roles.{writer_of}
 use Rattle.cells.specs.declared.roles.Role.{Role}
 use Rattle.cells.specs.declared.roles.Writer.{Writer}
 use Rattle.cells.specs.declared.roles.Writer.TheVariants.{Nobody, Admin, User}
 use Rattle.grammar.specs.Words.{same_word}
+use Rattle.grammar.specs.declared.fields.Fields.{Fields}
 use Rattle.request.specs.declared.commands.Command.{Command}
 use Rattle.request.specs.declared.refusals.LineRefusal.{LineRefusal}
 use Rattle.request.specs.declared.refusals.LineRefusal.TheVariants.{LongLine, NoCommand, FewFields, WrongField, NoSuch, NoNumber, PanelInRemote, SocketInLocal, NoMatch, NotAllowed, TripStanding, WhileOn, SameLoop, OtherLoop, WhileOff, OutsideRating, OutsideLimits, RateNotPositive, Unable}
 use Rattle.request.specs.Facts.{Facts, is_panel, is_local, is_admin, same_loop, within}
-use Rattle.request.specs.Forms.{Form, form, that, misworded, names_none, bad_number, bad_mask_or_text, no_number_in, malformed}
-use Rattle.request.specs.Lines.{Line, parsed, asked}
-use Rattle.request.specs.Requests.{Request, is_write, is_switch_on, is_save, loop_chosen, setpoint_of, cell_written, word_given, cell_read, rate_given, is_limit, is_password}
+use Rattle.request.specs.Forms.{Form, form, number_or_query, that, misworded, names_none, bad_number, bad_mask_or_text, no_number_in, malformed}
+use Rattle.request.specs.declared.requests.Question.{Question}
+use Rattle.request.specs.declared.requests.Request.{Request as Coded}
+use Rattle.request.specs.Lines.{Line, parsed, asked, number_asked, requested}
+use Rattle.request.specs.Requests.{Request, request_of, is_write, is_switch_on, is_save, loop_chosen, setpoint_of, cell_written, word_given, cell_read, rate_given, is_limit, is_password}
 
 -- GROUNDS OF A LINE
 
@@ -201,3 +204,11 @@ Admits against (Err n) = against ≡ Some n
 
 abbrev pub on_ground : Bool → LineRefusal → Option LineRefusal
 on_ground b n = cond b (Some n) None
+
+-- what a command with these fields asks of a module with so many sensors, or the first ground on them
+abbrev pub ReadsFields : ℕ → Command → Fields → Result Coded LineRefusal → Type 0
+ReadsFields sensors c f r = Reads request_of (field_refusal sensors c f.count f.second.now f.third.now) (requested c f.count f.second.now f.third.now) r
+
+-- what a field asks that may be a number to set or the question mark, or the ground against it
+abbrev pub ReadsNumber : Question → (ℤ → Request) → List ℕ → Result Coded LineRefusal → Type 0
+ReadsNumber q set f r = Reads request_of (on_ground (no_number_in number_or_query [] f) NoNumber) (number_asked q set f) r

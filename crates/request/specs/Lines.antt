@@ -1,9 +1,10 @@
 -- A line, and what it asks. Assumes nothing.
-use Rattle.std.specs.Prelude.{ℕ, cond, List, length, Some, None, Option, nat_lt}
+use Rattle.std.specs.Prelude.{◌≡◌, ℕ, ℤ, cond, List, length, Some, None, Option, nat_lt}
 use Rattle.cells.specs.Roles.{kind_of}
 use Rattle.cells.specs.Values.{Value}
 use Rattle.grammar.specs.Fields.{fields, field}
 use Rattle.grammar.specs.Numbers.{number_of}
+use Rattle.grammar.specs.declared.quantity.Quantity.{Quantity}
 use Rattle.power.specs.declared.loops.Loop.{Loop}
 use Rattle.power.specs.declared.loops.Loop.TheVariants.{I, V}
 use Rattle.std.specs.Option.{option_map}
@@ -12,10 +13,12 @@ use Rattle.request.specs.declared.commands.Command.TheVariants.{Mon, Moff, Mrese
 use Rattle.request.specs.declared.requests.Approach.{Approach}
 use Rattle.request.specs.declared.requests.Approach.TheVariants.{AtOnce, Ramp}
 use Rattle.request.specs.declared.requests.Cell.{Cell}
+use Rattle.request.specs.declared.requests.Question.{Question}
+use Rattle.request.specs.declared.requests.Request.{Request as Coded}
 use Rattle.request.specs.declared.requests.Question.TheVariants.{Status, PresentLoop, Target, Rate, Current, Voltage, Version, Identification, Access, Cell as OfCell, Hottest, SensorCount, Sensor}
 use Rattle.request.specs.Commands.{command_of}
 use Rattle.request.specs.Forms.{is_query, is_num, loop_named, index_of, cell_named, word_of, value_in}
-use Rattle.request.specs.Requests.{Request, switch_on, switch_off, reset, save, choose_loop, setpoint, set_rate, write_cell, password, ask}
+use Rattle.request.specs.Requests.{Request, request_of, switch_on, switch_off, reset, save, choose_loop, setpoint, set_rate, write_cell, password, ask}
 
 -- what the grounds need of a line: its length, its command, how many fields it has, and the second and third
 pub record Line : Type 0 where
@@ -28,13 +31,21 @@ pub record Line : Type 0 where
 abbrev pub parsed : List ℕ → Line
 parsed bytes = record { size = length bytes; command = command_of (field 0 (fields bytes)); count = length (fields bytes); second = field 1 (fields bytes); third = field 2 (fields bytes) }
 
+-- a number that is to be set, or the question for it
+abbrev pub number_asked : Question → (ℤ → Request) → List ℕ → Option Request
+number_asked q set f = cond (is_query f) (Some (ask q)) (option_map set (number_of f))
+
 -- a setpoint, or the question for it
 abbrev pub setpoint_asked : Loop → Approach → List ℕ → Option Request
-setpoint_asked l a f = cond (is_query f) (Some (ask (Target l a))) (option_map (setpoint l a) (number_of f))
+setpoint_asked l a f = number_asked (Target l a) (setpoint l a) f
 
 -- a rate, or the question for it
 abbrev pub rate_asked : Loop → List ℕ → Option Request
-rate_asked l f = cond (is_query f) (Some (ask (Rate l))) (option_map (set_rate l) (number_of f))
+rate_asked l f = number_asked (Rate l) (set_rate l) f
+
+-- each request that comes of a quantity means what is made of its millionths
+abbrev pub SetsTo : (Quantity → Coded → Type 0) → (ℤ → Request) → Type 0
+SetsTo makes set = (q : Quantity) (r : Coded) → makes q r → request_of r ≡ set q.millionths
 
 abbrev pub written : Cell → Option Value → Option Request
 written c None = None

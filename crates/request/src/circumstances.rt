@@ -4,21 +4,21 @@ use grammar::Text;
 use power::Loop;
 
 // Where a line comes from: the panel, or a socket.
-#[derive(Clone, Copy)]
+#[derive(Clone, Copy, PartialEq, Eq, Debug)]
 pub enum Origin {
     Panel,
     Socket,
 }
 
 // Who has control: the panel in Local, the sockets in Remote.
-#[derive(Clone, Copy)]
+#[derive(Clone, Copy, PartialEq, Eq, Debug)]
 pub enum Control {
     Local,
     Remote,
 }
 
 // What a seat may do: Admin writes protected cells.
-#[derive(Clone, Copy)]
+#[derive(Clone, Copy, PartialEq, Eq, Debug)]
 pub enum Access {
     User,
     Admin,

@@ -1,10 +1,11 @@
 // The commands and their names.
-ghost use Rattle.std.specs.Prelude.{◌≡◌, ◌≤◌, length};
+ghost use Rattle.std.specs.Prelude.{◌≡◌, ◌≤◌, length, Some};
 ghost use Rattle.request.specs.Commands.{name_of, command_of};
 
 use grammar::same_word;
+use std::fmt;
 
-#[derive(Clone, Copy)]
+#[derive(Clone, Copy, PartialEq, Eq, Debug)]
 pub enum Command {
     Mon,
     Moff,
@@ -57,39 +58,52 @@ impl Command {
     pub fn named(word: &[u8]) -> Option<Command>
         ensures value { result ≡ command_of word.now }
     {
-        for command in &COMMANDS {
-            if same_word(word, command.name()) {
-                return Some(*command);
-            }
-        }
-        None
+        COMMANDS
+            .iter()
+            .find(|command| same_word(word, command.name()))
+            .copied()
     }
 
     pub fn name(self) -> &'static [u8]
         ensures value { result.now ≡ name_of self }
         ensures bound { length result.now ≤ 8 }
     {
+        self.word().as_bytes()
+    }
+
+    // The name, as text.
+    fn word(self) -> &'static str
+        ensures value { result.now ≡ name_of self }
+    {
         match self {
-            Command::Mon => b"MON",
-            Command::Moff => b"MOFF",
-            Command::Mreset => b"MRESET",
-            Command::Msave => b"MSAVE",
-            Command::Loop => b"LOOP",
-            Command::Mwi => b"MWI",
-            Command::Mwir => b"MWIR",
-            Command::Mwv => b"MWV",
-            Command::Mwvr => b"MWVR",
-            Command::Msri => b"MSRI",
-            Command::Msrv => b"MSRV",
-            Command::Mwg => b"MWG",
-            Command::Password => b"PASSWORD",
-            Command::Mst => b"MST",
-            Command::Mri => b"MRI",
-            Command::Mrv => b"MRV",
-            Command::Ver => b"VER",
-            Command::Mrid => b"MRID",
-            Command::Mrg => b"MRG",
-            Command::Mrt => b"MRT",
+            Command::Mon => "MON",
+            Command::Moff => "MOFF",
+            Command::Mreset => "MRESET",
+            Command::Msave => "MSAVE",
+            Command::Loop => "LOOP",
+            Command::Mwi => "MWI",
+            Command::Mwir => "MWIR",
+            Command::Mwv => "MWV",
+            Command::Mwvr => "MWVR",
+            Command::Msri => "MSRI",
+            Command::Msrv => "MSRV",
+            Command::Mwg => "MWG",
+            Command::Password => "PASSWORD",
+            Command::Mst => "MST",
+            Command::Mri => "MRI",
+            Command::Mrv => "MRV",
+            Command::Ver => "VER",
+            Command::Mrid => "MRID",
+            Command::Mrg => "MRG",
+            Command::Mrt => "MRT",
         }
+    }
+}
+
+impl fmt::Display for Command {
+    ghost output = { λ c. Some (name_of c) };
+
+    fn fmt<W: fmt::Write>(&self, f: &mut fmt::Formatter<W>) -> fmt::Result {
+        f.write_str(self.word())
     }
 }

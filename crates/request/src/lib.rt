@@ -7,6 +7,7 @@ pub mod commands;
 pub mod examples;
 pub mod refusals;
 pub mod requests;
+mod wording;
 
 pub use circumstances::{Access, Circumstances, Control, Origin};
 pub use commands::Command;

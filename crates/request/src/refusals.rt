@@ -5,7 +5,7 @@ ghost use Rattle.request.specs.Refusals.{line_number, call_number, two_digits};
 
 // The grounds on which a line is refused, in the order in which they are tried.
 // Some grounds share a number.
-#[derive(Clone, Copy)]
+#[derive(Clone, Copy, PartialEq, Eq, Debug)]
 pub enum LineRefusal {
     // More than 1,024 bytes.
     LongLine = 99,
@@ -37,7 +37,7 @@ pub enum LineRefusal {
 }
 
 // The grounds on which a call is refused before there is a line to answer.
-#[derive(Clone, Copy)]
+#[derive(Clone, Copy, PartialEq, Eq, Debug)]
 pub enum CallRefusal {
     // A datagram above 8,192 bytes.
     LongDatagram = 201,

@@ -5,13 +5,13 @@ mod heating;
 mod keeping;
 mod setpoints;
 
-use cells::{CellStore, place_of};
-use grammar::{Quantity, Text, print_number, read_number};
+use cells::{CellStore, Stored, place_of};
+use grammar::{Quantity, Text, read_number};
 use heating::run_to_trip;
 use image::ImageStore;
 use keeping::keep_number;
 use power::{Loop, Magnet, PowerModule, start};
-use setpoints::{Fault, Verdict, assess};
+use setpoints::{Refused, Taken, assess};
 use std::io;
 
 // Setpoints in amperes, as people at a laboratory typed them.
@@ -73,43 +73,25 @@ fn review_setpoints(rt: &HostRuntime) -> io::Result<()> {
 
 fn show_setpoint(rt: &HostRuntime, typed: &str) -> io::Result<()> {
     match assess(typed.as_bytes()) {
-        Verdict::Taken { quantity, printed } => {
+        Ok(Taken { quantity, printed }) => {
             let millionths = quantity.millionths();
-            let text = text_of(&printed);
-            let back = back_again(&printed, millionths);
+            let back = back_again(&printed, quantity);
             println!(rt;
-                "  '{typed}' is {millionths} millionths, and prints as {text}, which {back}."
+                "  '{typed}' is {millionths} millionths, and prints as {printed}, which {back}."
             )
         }
-        Verdict::Refused { at, fault } => {
+        Err(Refused { at, fault }) => {
             let place = at.saturating_add(1);
-            let reason = explain(fault);
-            println!(rt; "  '{typed}' is refused at byte {place}: {reason}.")
+            println!(rt; "  '{typed}' is refused at byte {place}: {fault}.")
         }
     }
 }
 
-// The printed form, as text for the screen.
-fn text_of(printed: &Text) -> &str {
-    match std::str::from_utf8(printed.as_bytes()) {
-        Ok(text) => text,
-        Err(_) => "(not text)",
-    }
-}
-
-fn back_again(printed: &Text, millionths: i64) -> &'static str {
-    match read_number(printed.as_bytes()) {
-        Some(q) if q.millionths() == millionths => "reads back the same",
-        _ => "DOES NOT READ BACK",
-    }
-}
-
-fn explain(fault: Fault) -> &'static str {
-    match fault {
-        Fault::EndsEarly => "it ends where a digit is still wanted",
-        Fault::WholeDigit => "a fifth digit stands before the point, where four are the most",
-        Fault::Decimal => "a seventh digit stands after the point, where six are the most",
-        Fault::OtherByte => "a number goes on here with a digit, or with a point after a digit",
+fn back_again(printed: &Text, quantity: Quantity) -> &'static str {
+    if read_number(printed.as_bytes()) == Some(quantity) {
+        "reads back the same"
+    } else {
+        "DOES NOT READ BACK"
     }
 }
 
@@ -154,15 +136,13 @@ fn heat_magnet(rt: &HostRuntime) -> io::Result<()> {
 }
 
 fn show_magnet(rt: &HostRuntime, elapsed: u32, magnet: &Magnet) -> io::Result<()> {
-    let current = print_number(magnet.current());
-    let temperature = print_number(magnet.temperature(1));
+    let amperes = magnet.current();
+    let degrees = magnet.temperature(1);
     let line = if magnet.live_lines() == 0 {
         "down"
     } else {
         "up"
     };
-    let amperes = text_of(&current);
-    let degrees = text_of(&temperature);
     println!(rt; "  after {elapsed} ms: {amperes} A, {degrees} degrees, line 20 is {line}")
 }
 
@@ -185,9 +165,9 @@ fn keep_cells(rt: &HostRuntime) -> io::Result<()> {
     println!(rt; "")?;
     let mut store = ImageStore::new(vec![in rt.alloc(); 0u8; 200]?);
     if let Some(name) = Text::new(b"HALL-B-Q7") {
-        store.set_text(1, name);
+        store.set(1, Stored::Text(name));
     }
-    store.set_number(11, 5_000_000);
+    store.set(11, Stored::Number(5_000_000));
     if keep_number(&mut store, 100, -2).is_err() {
         return println!(rt; "  The image does not fit its 200 bytes.");
     }
@@ -199,10 +179,12 @@ fn keep_cells(rt: &HostRuntime) -> io::Result<()> {
     let again = ImageStore::new(store.into_bytes());
     println!(rt; "")?;
     println!(rt; "A second store over the same bytes reads them back:")?;
-    let name = again.text(1);
-    let identification = text_of(&name);
-    let highest = again.number(11).unwrap_or(0);
-    let operator = again.number(100).unwrap_or(0);
+    let identification = again
+        .get(1)
+        .and_then(Stored::text)
+        .unwrap_or(Text::absent());
+    let highest = again.get(11).and_then(Stored::number).unwrap_or(0);
+    let operator = again.get(100).and_then(Stored::number).unwrap_or(0);
     println!(rt;
         "  cell 1 is {identification}, cell 11 is {highest} millionths, cell 100 is {operator}."
     )?;
@@ -230,9 +212,7 @@ fn show_pair(rt: &HostRuntime, cell: u32, place: usize, bytes: &[u8]) -> io::Res
 
 // The number of two bytes, high byte first; a byte past the end counts 0.
 fn number_at(bytes: &[u8], i: usize) -> usize {
-    let high = byte_at(bytes, i) as usize;
-    let low = byte_at(bytes, i.saturating_add(1)) as usize;
-    high * 256 + low
+    u16::from_be_bytes([byte_at(bytes, i), byte_at(bytes, i.saturating_add(1))]) as usize
 }
 
 fn byte_at(bytes: &[u8], i: usize) -> u8 {

@@ -3,6 +3,7 @@ ghost use Rattle.std.specs.Prelude.{◌≡◌, ◌≤◌, length};
 ghost use Rattle.tour.specs.Verdicts.{has_point, Faulty, Assessed};
 
 use grammar::{Quantity, Text, number_prefix, print_number, read_number};
+use std::fmt;
 
 // What is wrong with bytes that are no number, at the place where they stop being one.
 #[derive(Clone, Copy, PartialEq, Eq, Debug)]
@@ -17,27 +18,46 @@ pub enum Fault {
     OtherByte,
 }
 
+impl fmt::Display for Fault {
+    fn fmt<W: fmt::Write>(&self, f: &mut fmt::Formatter<W>) -> fmt::Result {
+        f.write_str(match self {
+            Fault::EndsEarly => "it ends where a digit is still wanted",
+            Fault::WholeDigit => "a fifth digit stands before the point, where four are the most",
+            Fault::Decimal => "a seventh digit stands after the point, where six are the most",
+            Fault::OtherByte => "a number goes on here with a digit, or with a point after a digit",
+        })
+    }
+}
+
+// A setpoint that is a number, with its printed form.
 #[derive(Clone, Copy)]
-pub enum Verdict {
-    Taken { quantity: Quantity, printed: Text },
-    Refused { at: usize, fault: Fault },
+pub struct Taken {
+    pub quantity: Quantity,
+    pub printed: Text,
+}
+
+// Where and why bytes are no setpoint.
+#[derive(Clone, Copy, PartialEq, Eq, Debug)]
+pub struct Refused {
+    pub at: usize,
+    pub fault: Fault,
 }
 
 // What the supply makes of these bytes as a setpoint.
-pub fn assess(typed: &[u8]) -> Verdict
+pub fn assess(typed: &[u8]) -> Result<Taken, Refused>
     ensures cases { Assessed typed.now result }
 {
     match read_number(typed) {
-        Some(quantity) => Verdict::Taken {
+        Some(quantity) => Ok(Taken {
             quantity,
             printed: print_number(quantity),
-        },
+        }),
         None => {
             let at = number_prefix(typed);
-            Verdict::Refused {
+            Err(Refused {
                 at,
                 fault: fault_at(typed, at),
-            }
+            })
         }
     }
 }
@@ -63,10 +83,5 @@ fn fault_at(typed: &[u8], at: usize) -> Fault
 fn has_point(bytes: &[u8]) -> bool
     ensures value { result ≡ has_point bytes.now }
 {
-    for b in bytes {
-        if *b == b'.' {
-            return true;
-        }
-    }
-    false
+    bytes.contains(&b'.')
 }

@@ -10,7 +10,7 @@ use std::test::Fail;
 
 // Circumstances by what sets them apart: a USER at a socket in REMOTE, with the module off in loop I, no trip and
 // a store that is able, but for what the name says. Rated 20 A and 40 V, limits of 5 A and 10 V, all either way.
-#[derive(Clone, Copy)]
+#[derive(Clone, Copy, PartialEq, Eq, Debug)]
 enum Scene {
     Off,
     On,
@@ -234,10 +234,7 @@ fn circumstances(scene: Scene) -> Circumstances {
 
 #[test]
 fn judged(rt: HostRuntime) -> Result<(), Fail> {
-    for (scene, line, wanted) in &JUDGED {
-        compare(&rt, line, judge(line, &circumstances(*scene)), *wanted)?;
-    }
-    for (scene, line, wanted) in &FIRST {
+    for (scene, line, wanted) in JUDGED.iter().chain(&FIRST) {
         compare(&rt, line, judge(line, &circumstances(*scene)), *wanted)?;
     }
     Ok(())

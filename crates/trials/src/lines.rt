@@ -1,8 +1,9 @@
 // Lines as they come in: what each is read as.
 // The tables are statics, because the proof of a test that lends so large a constant outgrows its memory.
-use phrases::describe;
 use reading::read_line;
 use request::{LineRefusal, Request};
+use std::alloc::{AllocError, Global};
+use std::fmt::Display;
 use std::process::Abort;
 use std::test::Fail;
 
@@ -208,6 +209,14 @@ static SENSORS: [(u8, &[u8], Result<&str, u8>); 6] = [
     (8, b"MRT:0:?", Err(3)),
 ];
 
+// An outcome as text: what is asked, or the number of the refusal.
+fn told(heap: Global, outcome: Result<impl Display + Drop, u8>) -> Result<String, AllocError> {
+    match outcome {
+        Ok(asked) => format!(in heap; "{asked}"),
+        Err(number) => format!(in heap; "refused {number}"),
+    }
+}
+
 // That an outcome is the wanted one; a failure shows the line.
 pub(crate) fn compare(
     rt: &(impl Abort + AllocGlobal),
@@ -216,18 +225,9 @@ pub(crate) fn compare(
     wanted: Result<&str, u8>,
 ) -> Result<(), Fail> {
     let typed = std::str::from_utf8(line).unwrap_or("(not text)");
-    let told = match outcome {
-        Ok(request) => describe(rt.alloc(), &request)?,
-        Err(refusal) => {
-            let number = refusal.number();
-            format!(in rt.alloc(); "refused {number}")?
-        }
-    };
-    let expected = match wanted {
-        Ok(text) => format!(in rt.alloc(); "{text}")?,
-        Err(number) => format!(in rt.alloc(); "refused {number}")?,
-    };
-    assert_eq!(rt; told, expected, "{}", typed);
+    let outcome = told(rt.alloc(), outcome.map_err(LineRefusal::number))?;
+    let wanted = told(rt.alloc(), wanted)?;
+    assert_eq!(rt; outcome, wanted, "{}", typed);
     Ok(())
 }
 

@@ -80,11 +80,7 @@ fn pace(rate: Quantity) -> u64
     ensures value { result ≡ pace_of rate.millionths }
     ensures bound { result < 10000000000 }
 {
-    if rate.millionths() < 0 {
-        0
-    } else {
-        rate.millionths() as u64
-    }
+    u64::try_from(rate.millionths()).unwrap_or(0)
 }
 
 // The demand after a tick at each of these rates, on a ramp from a start to a target.

@@ -4,6 +4,7 @@ ghost use Rattle.grammar.specs.Numbers.{places, trimmed, shown, sign_text, point
 ghost use Rattle.grammar.specs.Numerals.{numeral};
 ghost use Rattle.grammar.specs.Texts.{bytes_of};
 
+use crate::base::Base;
 use crate::digits::push_digits;
 use crate::quantity::Quantity;
 use crate::text::Text;
@@ -28,7 +29,7 @@ fn print_parts(minus: bool, whole: u64, fraction: u64) -> Text
 {
     let mut text = Text::absent();
     push_sign(&mut text, minus);
-    push_digits(&mut text, 10, whole);
+    push_digits(&mut text, Base::DECIMAL, whole);
     push_shown(&mut text, fraction);
     text
 }
@@ -58,7 +59,7 @@ fn push_trimmed(text: &mut Text, k: usize, n: u64)
     if k == 0 {
         return;
     }
-    if ends_in_zero(n) {
+    if n % 10 == 0 {
         return push_trimmed(text, k - 1, n / 10);
     }
     text.push(b'.');
@@ -75,10 +76,4 @@ fn push_places(text: &mut Text, k: usize, n: u64)
     }
     push_places(text, k - 1, n / 10);
     text.push(b'0' + (n % 10) as u8);
-}
-
-fn ends_in_zero(n: u64) -> bool
-    ensures value { result ≡ (n % 10 == 0) }
-{
-    n % 10 == 0
 }

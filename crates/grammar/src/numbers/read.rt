@@ -13,10 +13,7 @@ pub fn read_number(text: &[u8]) -> Option<Quantity>
 {
     let mut scan = Scan::Start;
     for c in text {
-        match scan.accept(*c) {
-            Some(next) => scan = next,
-            None => return None,
-        }
+        scan = scan.accept(*c)?;
     }
     scan.finish()
 }
@@ -27,10 +24,10 @@ pub fn number_prefix(text: &[u8]) -> usize
 {
     let mut scan = Scan::Start;
     for (i, c) in text.iter().enumerate() {
-        match scan.accept(*c) {
-            Some(next) => scan = next,
-            None => return i,
-        }
+        let Some(next) = scan.accept(*c) else {
+            return i;
+        };
+        scan = next;
     }
     text.len()
 }

@@ -7,7 +7,7 @@ short : (n : ℕ) → n ≤ 4294967295 → length (numeral 10 n) ≤ 10
 short n h = numeral-short 10 (omega arith) (omega arith) 10 n (omega arith) (omega arith)
 
 pub push_digits-requires : goal.push_digits-requires
-push_digits-requires c = (omega arith, (omega arith, omega (arith, short c.args.n (omega arith), ap length c.absent-text.ensures.value)))
+push_digits-requires c = omega (arith, short c.args.n (omega arith), ap length c.absent-text.ensures.value)
 
 pub returns : goal.returns
 returns c =

@@ -5,25 +5,25 @@ use Rattle.grammar.proofs.Radix.{numeral-digit, numeral-step, numeral-longer}
 use Rattle.grammar.proofs.digits.+push_digits.Goals as goal
 
 pub push-requires : goal.push-requires
-push-requires t c = let l = ap length (numeral-digit c.args.base c.requires.0 c.requires.1.0 c.args.n c.if-n-base.true) in omega (arith, c.requires.1.1)
+push-requires t c = let l = ap length (numeral-digit c.args.base.value c.args.base.least c.args.base.most c.args.n c.if-n-radix.true) in omega (arith, c.requires)
 
-pub returns-then-n-base : goal.returns-then-n-base
-returns-then-n-base t c = record {
+pub returns-then-n-radix : goal.returns-then-n-radix
+returns-then-n-radix t c = record {
   bytes = c.push.ensures.bytes
-      ∙ ap (λ (d : List ℕ). bytes_of c.args.text.now ++ d) (ap (λ x. x ∷ []) c.digit_char.ensures.value ∙ sym (numeral-digit c.args.base c.requires.0 c.requires.1.0 c.args.n c.if-n-base.true));
+      ∙ ap (λ (d : List ℕ). bytes_of c.args.text.now ++ d) (ap (λ x. x ∷ []) c.digit_char.ensures.value ∙ sym (numeral-digit c.args.base.value c.args.base.least c.args.base.most c.args.n c.if-n-radix.true));
 }
 
 pub push_digits-requires : goal.push_digits-requires
-push_digits-requires t c = let l = numeral-longer c.args.base c.requires.0 c.requires.1.0 c.args.n c.if-n-base.false in (search rules, (c.requires.0, (c.requires.1.0, omega (arith, c.requires.1.1))))
+push_digits-requires t c = let l = numeral-longer c.args.base.value c.args.base.least c.args.base.most c.args.n c.if-n-radix.false in (search rules, omega (arith, c.requires))
 
 pub push-requires-2 : goal.push-requires-2
 push-requires-2 t c =
-    let l = numeral-longer c.args.base c.requires.0 c.requires.1.0 c.args.n c.if-n-base.false in
-    omega (arith, c.requires.1.1, ap length c.push_digits.ensures.bytes, length-append (bytes_of c.args.text.now) (numeral c.args.base (c.args.n / c.args.base)))
+    let l = numeral-longer c.args.base.value c.args.base.least c.args.base.most c.args.n c.if-n-radix.false in
+    omega (arith, c.requires, ap length c.push_digits.ensures.bytes, length-append (bytes_of c.args.text.now) (numeral c.args.base.value (c.args.n / c.args.base.value)))
 
 pub returns : goal.returns
 returns t c = record {
   bytes = c.push-2.ensures.bytes ∙ (λ i. c.push_digits.ensures.bytes i ++ (c.digit_char-2.ensures.value i ∷ []))
-      ∙ append_assoc (bytes_of c.args.text.now) (numeral c.args.base (c.args.n / c.args.base)) (digit_char (c.args.n % c.args.base) ∷ [])
-      ∙ ap (λ (d : List ℕ). bytes_of c.args.text.now ++ d) (sym (numeral-step c.args.base c.requires.0 c.requires.1.0 c.args.n c.if-n-base.false));
+      ∙ append_assoc (bytes_of c.args.text.now) (numeral c.args.base.value (c.args.n / c.args.base.value)) (digit_char (c.args.n % c.args.base.value) ∷ [])
+      ∙ ap (λ (d : List ℕ). bytes_of c.args.text.now ++ d) (sym (numeral-step c.args.base.value c.args.base.least c.args.base.most c.args.n c.if-n-radix.false));
 }

@@ -6,7 +6,7 @@ use Rattle.grammar.proofs.masks.print_mask.Goals as goal
 pub push_digits-requires : goal.push_digits-requires
 push_digits-requires c =
     let mark = c.extend.ensures.bytes ∙ ap (λ (t : List ℕ). t ++ (48 ∷ 120 ∷ [])) c.absent-text.ensures.value in
-    (omega arith, (omega arith, omega (arith, ap length mark, mask-short c.args.mask (omega arith))))
+    omega (arith, ap length mark, mask-short c.args.mask (omega arith))
 
 pub returns : goal.returns
 returns c =

@@ -1,39 +1,25 @@
-use Rattle.std.proofs.Common.{◌≡◌, ℕ, Bool, true, false, ◌||◌, List, Some, Option, sym, refl, ap, ◌∙◌}
-use Rattle.request.specs.Forms.{index_of, cell_at, found_cell, cell_named}
+use Rattle.std.proofs.Common.{rules, ◌≡◌, ℕ, List, Some, sym, ◌∙◌}
+use Rattle.std.proofs.Math.Bool.{or-false}
+use Rattle.request.specs.Forms.{index_of, cell_at}
 use Rattle.request.specs.Grounds.{field_refusal, value_refusal}
-use Rattle.request.specs.Lines.{written, write_asked}
 use Rattle.request.specs.declared.commands.Command.TheVariants.{Mwg}
 use Rattle.request.specs.declared.requests.Cell.{Cell}
 use Rattle.reading.proofs.lines.read_cell_write.Goals as goal
 
-or-none : (b : Bool) → (b || false) ≡ b
-or-none true = refl
-or-none false = refl
-
 -- once the cell is found, the grounds on its value are left
-by_value : (f g : List ℕ) (k : ℕ) (c : Cell) → index_of f ≡ Some k → cell_at k ≡ Some c → field_refusal 0 Mwg 3 f g ≡ value_refusal c.role g
-by_value f g k c e d = simp (e, d, or-none)
+by_value : (n : ℕ) (f g : List ℕ) (k : ℕ) (c : Cell) → index_of f ≡ Some k → cell_at k ≡ Some c → field_refusal 0 Mwg n f g ≡ value_refusal c.role g
+by_value n f g k c e d = simp (e, d, or-false)
 
-found : (f : List ℕ) (k : ℕ) (c : Cell) → index_of f ≡ Some k → cell_at k ≡ Some c → cell_named f ≡ Some c
-found f k c e d = ap found_cell e ∙ d
+pub returns-in_err-value : goal.returns-in_err-value
+returns-in_err-value c =
+    let e = sym c.read_index.ensures.value ∙ c.in_ok-index.ensures.ok_part in
+    let d = sym c.find_cell.ensures.value ∙ c.in_ok-cell.ensures.ok_part in
+    let h = by_value c.args.fields.now.count _ c.args.fields.now.third.now _ _ e d ∙ c.in_err-value.ensures.cases in
+    search (rules, h)
 
-pub returns-in-Ok : goal.returns-in-Ok
-returns-in-Ok c =
-    let f : List ℕ = c.args.second.now in
-    let g : List ℕ = c.args.third.now in
-    let e = sym c.in-Some.ensures.value in
-    let d = sym c.in-Some-find_cell.ensures.value in
-    let h = c.in-Ok.ensures.cases in
-    record {
-      cases = (
-        by_value f g c.in-Some.index c.in-Some-find_cell.cell e d ∙ h.0,
-        ap (λ (o : Option Cell). write_asked o g) (found f c.in-Some.index c.in-Some-find_cell.cell e d)
-            ∙ ap (written c.in-Some-find_cell.cell) h.1,
-      );
-    }
-
-pub returns-in-Err : goal.returns-in-Err
-returns-in-Err c =
-    let e = sym c.in-Some.ensures.value in
-    let d = sym c.in-Some-find_cell.ensures.value in
-    record { cases = by_value c.args.second.now c.args.third.now c.in-Some.index c.in-Some-find_cell.cell e d ∙ c.in-Err.ensures.cases }
+pub returns : goal.returns
+returns c =
+    let e = sym c.read_index.ensures.value ∙ c.in_ok-index.ensures.ok_part in
+    let d = sym c.find_cell.ensures.value ∙ c.in_ok-cell.ensures.ok_part in
+    let h = c.in_ok-value.ensures.cases in
+    record { cases = (by_value c.args.fields.now.count _ c.args.fields.now.third.now _ _ e d ∙ h.0, simp (e, d, h.1)) }

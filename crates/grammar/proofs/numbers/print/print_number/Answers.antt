@@ -15,12 +15,6 @@ sign-test (negsuc n) = refl
 code_same : (z v : ℤ) → SFits w64 z → z ≡ v → to_z w64 (of_z w64 z) ≡ v
 code_same z v f e = to_z-of_z w64 z f ∙ e
 
-pub print_parts-requires : goal.print_parts-requires
-print_parts-requires c =
-    let range = within c.args.q.millionths c.args.q.low c.args.q.high in
-    let size = c.unsigned_abs-size.ensures.value ∙ ap nat_abs (code_same _ c.args.q.millionths (search rules) c.millionths-v.ensures.value) in
-    (omega arith, omega arith)
-
 pub returns : goal.returns
 returns c =
     let range = within c.args.q.millionths c.args.q.low c.args.q.high in

@@ -1,5 +1,5 @@
-use Rattle.std.proofs.Common.{◌≡◌, ℕ, ◌^◌, ◌<◌, ◌≤◌, List, ◌++◌, length, ap, ◌∙◌, append_assoc, arith, length-append}
-use Rattle.grammar.specs.Numbers.{sign_text, pointed, shown}
+use Rattle.std.proofs.Common.{ℕ, ◌^◌, ◌<◌, ◌≤◌, length, ap, arith, length-append}
+use Rattle.grammar.specs.Numbers.{sign_text}
 use Rattle.grammar.specs.Numerals.{numeral}
 use Rattle.grammar.specs.Texts.{bytes_of}
 use Rattle.grammar.proofs.Canon.{sign-short}
@@ -13,7 +13,7 @@ pub push_digits-requires : goal.push_digits-requires
 push_digits-requires c =
     let few = whole-few c.args.whole c.requires.0 in
     let l = length-append (bytes_of c.absent-text.result) (sign_text c.args.minus) in
-    (omega arith, (omega arith, omega (arith, ap length c.push_sign.ensures.bytes, ap length c.absent-text.ensures.value, sign-short c.args.minus)))
+    omega (arith, ap length c.push_sign.ensures.bytes, ap length c.absent-text.ensures.value, sign-short c.args.minus)
 
 pub push_shown-requires : goal.push_shown-requires
 push_shown-requires c =
@@ -21,11 +21,3 @@ push_shown-requires c =
     let l = length-append (bytes_of c.absent-text.result) (sign_text c.args.minus) in
     let m = length-append (bytes_of c.push_sign.new.text) (numeral 10 c.args.whole) in
     omega (arith, ap length c.push_digits.ensures.bytes, ap length c.push_sign.ensures.bytes, ap length c.absent-text.ensures.value, sign-short c.args.minus)
-
-pub returns : goal.returns
-returns c =
-    let sign : bytes_of c.push_sign.new.text ≡ sign_text c.args.minus = c.push_sign.ensures.bytes ∙ ap (λ (t : List ℕ). t ++ sign_text c.args.minus) c.absent-text.ensures.value in
-    record {
-      value = c.push_shown.ensures.bytes ∙ ap (λ (t : List ℕ). t ++ pointed (shown c.args.fraction)) (c.push_digits.ensures.bytes ∙ ap (λ (t : List ℕ). t ++ numeral 10 c.args.whole) sign)
-          ∙ append_assoc (sign_text c.args.minus) (numeral 10 c.args.whole) (pointed (shown c.args.fraction));
-    }

@@ -1,33 +1,17 @@
-use Rattle.std.proofs.Common.{◌≡◌, ℕ, Some, refl, ap, ◌∙◌}
+use Rattle.std.proofs.Common.{◌≡◌, ℕ, ◌+◌, ◌<◌, ◌/◌, ◌%◌, Some, ap, ◌∙◌, arith}
+use Rattle.std.specs.Char.{digit_value}
+use Rattle.grammar.proofs.Places.{digit-of}
 use Rattle.grammar.specs.Numerals.{numeral_of}
-use Rattle.request.specs.Refusals.{line_number, two_digits}
-use Rattle.request.specs.declared.refusals.LineRefusal.{LineRefusal}
-use Rattle.request.specs.declared.refusals.LineRefusal.TheVariants.{LongLine, NoCommand, FewFields, WrongField, NoSuch, NoNumber, PanelInRemote, SocketInLocal, NoMatch, NotAllowed, TripStanding, WhileOn, SameLoop, OtherLoop, WhileOff, OutsideRating, OutsideLimits, RateNotPositive, Unable}
+use Rattle.request.specs.Refusals.{two_digits}
 use Rattle.request.proofs.refusals.LineRefusal.digits.Goals as goal
 
-read_back : (n : LineRefusal) → numeral_of 10 2 (two_digits (line_number n)) ≡ Some (line_number n)
+-- what two decimal digits read back as
+read-back : (n : ℕ) → n < 100 → numeral_of 10 2 (two_digits n) ≡ Some n
 unfolding numeral_of
-read_back LongLine = refl
-read_back NoCommand = refl
-read_back FewFields = refl
-read_back WrongField = refl
-read_back NoSuch = refl
-read_back NoNumber = refl
-read_back PanelInRemote = refl
-read_back SocketInLocal = refl
-read_back NoMatch = refl
-read_back NotAllowed = refl
-read_back TripStanding = refl
-read_back WhileOn = refl
-read_back SameLoop = refl
-read_back OtherLoop = refl
-read_back WhileOff = refl
-read_back OutsideRating = refl
-read_back OutsideLimits = refl
-read_back RateNotPositive = refl
-read_back Unable = refl
+read-back n h =
+    let q : digit_value (48 + n / 10) ≡ n / 10 = digit-of (n / 10) (omega arith) in
+    let r : digit_value (48 + n % 10) ≡ n % 10 = digit-of (n % 10) (omega arith) in
+    rw (q, r) (grind arith)
 
-pub returns : goal.returns
-returns c =
-    let e = c.number-n.ensures.value in
-    record { value = ap two_digits e; back = ap (λ (n : ℕ). numeral_of 10 2 (two_digits n)) e ∙ read_back c.args.self }
+pub returns-clause-back : goal.returns-clause-back
+returns-clause-back c = read-back _ c.number-n.ensures.bound ∙ ap Some c.number-n.ensures.value

@@ -1,0 +1,55 @@
+// Why a line or a call is refused.
+ghost use Rattle.std.specs.Prelude.{◌<◌, length};
+
+use crate::refusals::{CallRefusal, LineRefusal};
+use std::error::Error;
+use std::fmt;
+
+impl LineRefusal {
+    pub fn reason(self) -> &'static str
+        ensures told { 0 < length result.now }
+    {
+        match self {
+            LineRefusal::LongLine => "the line has more than 1,024 bytes",
+            LineRefusal::NoCommand => "the first field is no command",
+            LineRefusal::FewFields => "a field is missing",
+            LineRefusal::WrongField =>
+                "a field is not what the command wants there, or one too many",
+            LineRefusal::NoSuch => "there is no such cell or sensor",
+            LineRefusal::NoNumber => "a number is wanted there",
+            LineRefusal::PanelInRemote => "the panel does not write in REMOTE",
+            LineRefusal::SocketInLocal => "only the panel writes in LOCAL",
+            LineRefusal::NoMatch => "the password matches nothing",
+            LineRefusal::NotAllowed => "the seat may not do that with this cell",
+            LineRefusal::TripStanding => "a trip stands",
+            LineRefusal::WhileOn => "not while on",
+            LineRefusal::SameLoop => "that is the present loop",
+            LineRefusal::OtherLoop => "the other loop is chosen",
+            LineRefusal::WhileOff => "not while off",
+            LineRefusal::OutsideRating => "outside the ratings",
+            LineRefusal::OutsideLimits => "outside the software limits",
+            LineRefusal::RateNotPositive => "a rate has to be above 0",
+            LineRefusal::Unable => "the store is not able to save",
+        }
+    }
+}
+
+impl fmt::Display for LineRefusal {
+    fn fmt<W: fmt::Write>(&self, f: &mut fmt::Formatter<W>) -> fmt::Result {
+        f.write_str(self.reason())
+    }
+}
+
+impl Error for LineRefusal {}
+
+impl fmt::Display for CallRefusal {
+    fn fmt<W: fmt::Write>(&self, f: &mut fmt::Formatter<W>) -> fmt::Result {
+        f.write_str(match self {
+            CallRefusal::LongDatagram => "the datagram has more than 8,192 bytes",
+            CallRefusal::NoSuchSeat => "there is no such seat",
+            CallRefusal::ShortOutput => "the output has fewer than 64 bytes for each line",
+        })
+    }
+}
+
+impl Error for CallRefusal {}
