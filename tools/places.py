@@ -88,10 +88,8 @@ def show(point, what, places):
             print('         ', *place)
 
 
-def main():
-    everything = [(p, re.sub(r'"[^"\n]*"', '""', without_comments(t))) for p, t in sources()]
-    fns = [f for p, t in sources() for f in functions(p, t)]
-
+def point_1(everything, fns):
+    """Own enums like Option and Result, flags, nones and errors handed on by hand."""
     enums = []
     for p, t in everything:
         for m in re.finditer(r'\benum (\w+)[^{]*\{', t):
@@ -107,6 +105,9 @@ def main():
     show(1, 'a match that only maps what is in an Option or a Result', matching(r'Some\(\w+\) => (Some|Ok)\([^,]*,?\s*(\w+\([^)]*\))?\)?,?\s*None =>|match [^{]*\{\s*Some\((\w+)\) => \3,\s*(None|_) => ', everything))
     show(1, 'fields that a flag or a 0 makes meaningless', matching(r'(?<=\n    )(place|len): usize,', everything))
 
+
+def point_2(everything, fns):
+    """Twins."""
     groups = collections.defaultdict(list)
     for f in fns:
         tokens = normal(f.body)
@@ -122,10 +123,16 @@ def main():
     show(2, 'families of functions whose names differ in one word of kind or end', [(k[0], ' '.join(sorted(v))) for k, v in stems.items() if len(v) > 1])
     show(2, 'structs of an array and its length', matching(r'\[u8; \w+\],\s*len: usize', everything))
 
+
+def point_3(everything, fns):
+    """Loops."""
     show(3, 'loops over a range from a number', matching(r'for \w+ in \(?\d[^{]*\.\.[^{]*\{', everything))
     show(3, 'while and loop', matching(r'(?<!\.)\b(while|loop) [^=;]*\{', everything))
     show(3, 'loops that search, test or count: a return or a sum inside a for', matching(r'for [^{]* in [^{]*\{\s*(if|match)[^{]*\{[^}]*(return|\+= 1)', everything))
 
+
+def point_4(everything, fns):
+    """Equality, order, conversion and printing by hand."""
     show(4, 'match to true and false', matching(r'=> (true|false),\s*[^=>]*=> (true|false),', everything))
     show(4, 'numbers taken out of quantities to be compared', matching(r'millionths\(\)\s*(<|>|<=|>=|==)\s*[\w.()]*\.millionths\(\)', everything))
     bare = []
@@ -138,6 +145,9 @@ def main():
     show(4, 'functions that make text for people', [(f.path, f.name) for f in fns if re.match(r'(describe|text_of|told|explain|loop_name|access_name|setter|reason)', f.name)])
     show(4, 'functions that turn one of our values into another', [(f.path, f.name) for f in fns if f.name != 'from' and re.match(r'\w+: (CellValue|Option<i64>|Option<u32>)$', f.args)])
 
+
+def point_5(everything, fns):
+    """Facts that repeat, parameters that travel together."""
     clauses = collections.defaultdict(set)
     for f in fns:
         for c in f.clauses:
@@ -154,11 +164,21 @@ def main():
                 sets[(f.path.split('/')[0], a, b)].add(f.path + ' ' + f.name)
     show(5, 'pairs of parameters that three or more functions of a crate take', [(*k, len(v)) for k, v in sets.items() if len(v) > 2])
 
+
+def point_6(everything, fns):
+    """Buffers with a length, tables."""
     show(6, 'an array with a length or a place beside it', matching(r'\[[\w<>]+; \w+\],\s*len: usize|Vec<\w+>,\s*place: usize', everything))
     show(6, 'tables', matching(r'(static|const) \w+: \[[^;]+; \w+\]', everything))
+
+
+def point_7(everything, fns):
+    """Switches."""
     show(7, 'a match of which four or more arms call a function', [(p, l, x) for p, l, x in matching(r'match [^{]*\{(\s*[^=]*=> (self\.)?\w+\([^;{]*\),){4,}', everything)])
     show(7, 'tables of functions, function pointers', matching(r':\s*\[?fn\(', everything))
 
+
+def point_8(everything, fns):
+    """Proofs, and how much there is."""
     answers = lemmas = lines = 0
     for folder, _, names in os.walk(os.path.join(ROOT, 'crates')):
         if '/proofs' in folder and '/out/' not in folder:
@@ -172,6 +192,13 @@ def main():
                         lemmas += len(re.findall(r'^ *(pub )?[^\s:]+ : \(', t, re.M))
     print(f'8  {answers:4d}  answers in proofs; {lemmas} lemmas; {lines} lines of proofs')
     print(f'   {sum(t.count(chr(10)) for _, t in sources()):4d}  lines in src; {len(fns)} functions')
+
+
+def main():
+    everything = [(p, re.sub(r'"[^"\n]*"', '""', without_comments(t))) for p, t in sources()]
+    fns = [f for p, t in sources() for f in functions(p, t)]
+    for point in (point_1, point_2, point_3, point_4, point_5, point_6, point_7, point_8):
+        point(everything, fns)
 
 
 main()

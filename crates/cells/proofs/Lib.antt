@@ -1,3 +1,4 @@
 pub mod Listed
 pub mod Access
 pub mod Slots
+pub mod ByKind

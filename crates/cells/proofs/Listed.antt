@@ -27,5 +27,5 @@ unfolding roles
 listed_end p e = ap (slice_get roles) e
 
 -- the kind at a place of a list that is the directory
-pub listed_kind : (rs : List Role) (i : ℕ) (r : Role) → rs ≡ roles → r ≡ get_or rs i r → i < length rs → kind_of r ≡ get_or kinds i Number
-listed_kind rs i r e q l = ap kind_of q ∙ sym (get_or-map kind_of rs i r Number l) ∙ ap (λ (xs : List Role). get_or (map kind_of xs) i Number) e
+pub listed_kind : (rs : List Role) (i : ℕ) (r d : Role) → rs ≡ roles → r ≡ get_or rs i d → i < length rs → kind_of r ≡ get_or kinds i Number
+listed_kind rs i r d e q l = ap kind_of q ∙ sym (get_or-map kind_of rs i d Number l) ∙ ap (λ (xs : List Role). get_or (map kind_of xs) i Number) e

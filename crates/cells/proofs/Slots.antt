@@ -11,7 +11,7 @@ use Rattle.cells.specs.declared.stored.Stored.{Stored}
 use Rattle.cells.specs.declared.roles.Kind.{Kind}
 use Rattle.cells.specs.declared.roles.Kind.TheVariants.{Number, Mask, Text}
 
-same_kind-equal : (a b : Kind) → same_kind a b ≡ true → a ≡ b
+pub same_kind-equal : (a b : Kind) → same_kind a b ≡ true → a ≡ b
 same_kind-equal Number Number e = refl
 same_kind-equal Number Mask e = absurd (false≢true e)
 same_kind-equal Number Text e = absurd (false≢true e)
@@ -22,7 +22,7 @@ same_kind-equal Text Number e = absurd (false≢true e)
 same_kind-equal Text Mask e = absurd (false≢true e)
 same_kind-equal Text Text e = refl
 
-kinded-set : (ks : List Kind) (vs : List Value) (i : ℕ) (v : Value) → kinded ks vs ≡ true → i < length ks → fits (get_or ks i Number) v ≡ true → kinded ks (set vs i v) ≡ true
+pub kinded-set : (ks : List Kind) (vs : List Value) (i : ℕ) (v : Value) → kinded ks vs ≡ true → i < length ks → fits (get_or ks i Number) v ≡ true → kinded ks (set vs i v) ≡ true
 kinded-set [] [] i v e l f = e
 kinded-set [] (w ∷ vs) i v e l f = absurd (false≢true e)
 kinded-set (k ∷ ks) [] i v e l f = absurd (false≢true e)

@@ -22,6 +22,13 @@ pub data Value : Type 0 where
   mask : ℕ → Value
   text : List ℕ → Value
 
+-- whether there is no value
+abbrev pub is_absent : Value → Bool
+is_absent absent = true
+is_absent (number z) = false
+is_absent (mask m) = false
+is_absent (text bs) = false
+
 -- lawful numbers: a low from the rated low to 0, a high from 0 to the rated high, a rate above 0, and an operator's in range
 abbrev pub lawful_number : Ratings → Role → ℤ → Bool
 lawful_number r Model v = false

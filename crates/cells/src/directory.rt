@@ -8,7 +8,8 @@ use crate::roles::{Kind, Role};
 // How many cells there are.
 pub const CELL_COUNT: usize = 39;
 
-// Cells 0 and 1, 10 to 16, 90 and 91, and 100 to 127. Written out, since a static's value is a literal.
+// Cells 0 and 1, 10 to 16, 90 and 91, and 100 to 127.
+// No plainer: a static's value is a literal, so 28 equal rows are written out.
 static ROLES: [Role; CELL_COUNT] = [
     Role::Model,
     Role::Identification,

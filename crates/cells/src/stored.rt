@@ -1,14 +1,15 @@
 // Values of cells: as a store holds them, and as they count.
-ghost use Rattle.std.specs.Prelude.{◌≡◌, ◌<◌, true, [], ◌||◌, length, MatchOption};
+ghost use Rattle.std.specs.Prelude.{◌≡◌, ◌<◌, true, [], length, MatchOption};
 ghost use Rattle.grammar.specs.Texts.{bytes_of};
 ghost use Rattle.cells.specs.Contents.{number_in, mask_in, text_in};
 ghost use Rattle.cells.specs.Kinded.{fits};
-ghost use Rattle.cells.specs.Values.{stored_of, stored_kind, raw_of};
+ghost use Rattle.cells.specs.Values.{is_absent, stored_of, stored_kind, raw_of};
 
 use crate::roles::Kind;
 use grammar::{Quantity, Text};
 
-// A value as a store holds it: raw, lawful or not. A text of no bytes stands for no value.
+// A value as a store holds it: raw, lawful or not. A text of no bytes stands for no value, since the image has no other
+// way to say that there is none.
 #[derive(Clone, Copy)]
 pub enum Stored {
     Number(i64),
@@ -56,6 +57,16 @@ impl Stored {
         match self {
             Stored::Text(text) => (!text.is_absent()).then_some(text),
             _ => None,
+        }
+    }
+
+    // Whether it stands for no value.
+    pub(crate) fn is_absent(self) -> bool
+        ensures value { result ≡ is_absent (stored_of self) }
+    {
+        match self {
+            Stored::Text(text) => text.is_absent(),
+            _ => false,
         }
     }
 

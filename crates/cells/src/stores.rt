@@ -1,7 +1,7 @@
 // What any store of cells means, whatever it is made of.
-ghost use Rattle.std.specs.Prelude.{◌≡◌, is_ok};
+ghost use Rattle.std.specs.Prelude.{◌≡◌, None, is_ok};
 ghost use Rattle.cells.specs.Contents.{Contents, Whole, at, Wrote, Saved, Reloaded};
-ghost use Rattle.cells.specs.Values.{stored_of, stored_kind, slot_of};
+ghost use Rattle.cells.specs.Values.{absent, stored_of, stored_kind, slot_of};
 
 use crate::stored::Stored;
 
@@ -14,9 +14,10 @@ pub struct Unable;
 pub trait CellStore {
     ghost contents: { Self → Contents };
 
-    // The working value of a cell; what is no cell has none.
+    // The working value of a cell; an absent one has none, and neither has what is no cell.
     fn get(&self, cell: u32) -> Option<Stored>
-        ensures value { slot_of result ≡ at (contents self.now).working cell };
+        ensures value { slot_of result ≡ at (contents self.now).working cell }
+        ensures none { at (contents self.now).working cell ≡ absent → result ≡ None };
 
     // Writes a working value; into no cell, or a cell of another kind, it does nothing.
     // A text of no bytes makes the cell absent.

@@ -30,6 +30,8 @@ impl CellStore for TableStore {
 
     ghost whole = { λ s. record { working = values-39 s.working.slots s.working.kinded; saved = values-39 s.saved.slots s.saved.kinded } };
 
+    // Both stores pass reads and writes on to their array. A generic store over what it saves into would need a trait
+    // of three calls with laws of their own to save these two lines.
     fn get(&self, cell: u32) -> Option<Stored> {
         self.working.get(cell)
     }

@@ -2,7 +2,7 @@
 ghost use Rattle.std.specs.Prelude.{◌≡◌, ◌≤◌, true, false, ◌&&◌, length, MatchOption};
 ghost use Rattle.grammar.specs.Texts.{bytes_of};
 ghost use Rattle.cells.specs.Roles.{kind_of};
-ghost use Rattle.cells.specs.Values.{number, mask, text, lawful_number, lawful_mask, lawful_password, lawful_text, is_mask, lawful, factory, cell_value, Valued, stored_of, slot_of, value_of};
+ghost use Rattle.cells.specs.Values.{lawful_number, lawful_mask, lawful_password, lawful_text, is_mask, lawful, factory, cell_value, Valued, stored_of, slot_of, value_of};
 
 use crate::ratings::Ratings;
 use crate::roles::{Kind, Role};
@@ -108,5 +108,5 @@ fn short_text(bytes: &[u8]) -> Text
     requires { length bytes.now ≤ 24 }
     ensures value { bytes_of result ≡ bytes.now }
 {
-    Text::new(bytes).unwrap_or(Text::absent())
+    Text::new(bytes).unwrap()
 }

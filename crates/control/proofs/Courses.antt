@@ -1,5 +1,5 @@
 -- How a ramp's course goes over many ticks. Assumes nothing.
-use Rattle.std.proofs.Common.{◌≡◌, ℕ, ◌+◌, ◌*◌, ◌/◌, ◌≤◌, min, List, [], ◌∷◌, ℤ, ◌-ℤ◌, nat_abs, sym, ap, ◌∙◌, subst, arith}
+use Rattle.std.proofs.Common.{◌≡◌, ℕ, ◌+◌, ◌*◌, ◌/◌, ◌≤◌, min, List, [], ◌∷◌, ℤ, ◌-ℤ◌, ◌≤ℤ◌, nat_abs, sym, ap, ◌∙◌, subst, arith}
 use Rattle.std.proofs.lemmas.Int.{ints}
 use Rattle.control.specs.Ramps.{Course, distance, ticked, ticked_by, towards, position, total, Between, Ramped}
 
@@ -23,6 +23,10 @@ after c (p ∷ ps) h =
 -- the whole part of a capped sum
 whole : (s d : ℕ) → min s (1000 * d) / 1000 ≡ min (s / 1000) d
 whole s d = omega arith
+
+-- what lies between two one way does so the other way too where they are the same
+pub flat_up : (a b x : ℤ) → (a ≤ℤ x) × (x ≤ℤ b) → b ≤ℤ a → (b ≤ℤ x) × (x ≤ℤ a)
+flat_up a b x u h = (omega (arith, ints), omega (arith, ints))
 
 between : (a b : ℤ) (n : ℕ) → Between a b (towards a b (min n (nat_abs (b -ℤ a))))
 between a b n = (λ h. (grind (arith, ints), grind (arith, ints)), λ h. (grind (arith, ints), grind (arith, ints)))

@@ -1,5 +1,5 @@
 -- The greatest of some quantities. Assumes nothing.
-use Rattle.std.proofs.Common.{◌≡◌, map, List, [], ◌∷◌, ℤ, pos, fold, sym, refl, ap, ◌∙◌, ⊎_elim, arith}
+use Rattle.std.proofs.Common.{◌≡◌, Bool, true, false, cond, map, List, [], ◌∷◌, ℤ, pos, fold, sym, refl, ap, ◌∙◌, ⊎_elim, arith}
 use Rattle.std.proofs.ByRecursion.{has_append_right, folded_max_z_bounds, folded_max_z_reached}
 use Rattle.std.proofs.lemmas.Int.{ints}
 use Rattle.std.specs.Int.{int_max}
@@ -9,6 +9,10 @@ use Rattle.std.specs.Ordering.{int_cmp, max_by_ordering}
 use Rattle.grammar.specs.Numbers.{millionths_of}
 use Rattle.grammar.specs.declared.quantity.Quantity.{Quantity}
 use Rattle.control.specs.Heat.{hottest_of, Hottest}
+
+pub either_way : (b : Bool) (x : ℤ) → cond b x x ≡ x
+either_way true x = refl
+either_way false x = refl
 
 -- of two quantities, the one that counts more
 abbrev greater : Quantity → Quantity → Quantity

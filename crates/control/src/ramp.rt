@@ -1,6 +1,6 @@
 // A ramp: the demand on its way from a start to a target.
 // Its sum never passes what the whole way takes: that comes with the value, so that no number of ticks wraps it.
-ghost use Rattle.std.specs.Prelude.{◌*◌, ◌≤◌, ℤ, ◌-ℤ◌, unsigned_abs};
+ghost use Rattle.std.specs.Prelude.{◌*◌, ◌≤◌, ◌-ℤ◌, unsigned_abs};
 
 use grammar::Quantity;
 

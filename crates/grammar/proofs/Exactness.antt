@@ -3,6 +3,7 @@ use Rattle.std.proofs.Common.{◌≡◌, ℕ, suc, ◌+◌, ◌-◌, ◌*◌, �
 use Rattle.std.specs.Option.{option_map}
 use Rattle.std.specs.Str.Parse.{AllDigits, digits_value_after}
 use Rattle.std.specs.Char.{is_ascii_digit, digit_value}
+use Rattle.std.proofs.lemmas.Option.{none-some, same_Some}
 use Rattle.std.proofs.lemmas.Bool.{ne_eqb, lt-ltb, eqb-true, eqb-false, ltb-true, cases_Bool}
 use Rattle.std.proofs.lemmas.Bool.Decides.{nat_tests}
 use Rattle.std.proofs.lemmas.Str.Parse.{digit_from_value}
@@ -61,21 +62,18 @@ from_parts p l =
 
 -- FROM THE COMPUTATION TO PARTS
 
-not_none : {A : Type 0} (x : A) → ◌≡◌ {A = Option A} None (Some x) → ⊥
-not_none x e = let z : ◌≡◌ {A = ℕ} 0 1 = cc in omega arith
-
 after-parts : (k n : ℕ) (bs : List ℕ) (m : ℕ) → k ≤ 6 → after_point k n bs ≡ Some m → AllDigits 10 bs × (k + length bs ≤ 6) × (0 < k + length bs)
 after-parts k n [] m few e =
-    ⊎_elim (λ t. absurd (not_none m (rw t at e))) (λ t. let z = eqb-false k 0 t in (tt, omega arith, grind arith)) (cases_Bool (eqb k 0))
+    ⊎_elim (λ t. absurd (none-some m (rw t at e))) (λ t. let z = eqb-false k 0 t in (tt, omega arith, grind arith)) (cases_Bool (eqb k 0))
 after-parts k n (c ∷ cs) m few e =
     ⊎_elim
     (λ d. ⊎_elim
     (λ l. let b = of-digit c d in let s = ltb-true k 6 l in
     let r = after-parts (k + 1) (n * 10 + (c - 48)) cs m (omega arith) (rw (d, l) at e) in
     ((b.0, r.0), omega (arith, r.1), omega arith))
-    (λ l. let e' = rw d at e in absurd (not_none m (rw l at e')))
+    (λ l. let e' = rw d at e in absurd (none-some m (rw l at e')))
     (cases_Bool (ltb k 6)))
-    (λ d. absurd (not_none m (rw d at e)))
+    (λ d. absurd (none-some m (rw d at e)))
     (cases_Bool (is_ascii_digit c))
 
 record Split (k : ℕ) (bs : List ℕ) : Type 0 where
@@ -118,26 +116,26 @@ one-digit k c cs d s = record {
 
 before-parts : (k n : ℕ) (bs : List ℕ) (m : ℕ) → k ≤ 4 → before_point k n bs ≡ Some m → Split k bs
 before-parts k n [] m few e =
-    ⊎_elim (λ t. absurd (not_none m (rw t at e)))
+    ⊎_elim (λ t. absurd (none-some m (rw t at e)))
     (λ t. let z = eqb-false k 0 t in record { ds = []; fs = []; text = refl; whole_digits = tt; fraction_digits = tt; few = omega arith; some = grind arith; short = omega arith })
     (cases_Bool (eqb k 0))
 before-parts k n (c ∷ cs) m few e =
     ⊎_elim
     (λ d. ⊎_elim
     (λ l. let s = ltb-true k 4 l in one-digit k c cs d (before-parts (k + 1) (n * 10 + (c - 48)) cs m (omega arith) (rw (d, l) at e)))
-    (λ l. let e' = rw d at e in absurd (not_none m (rw l at e')))
+    (λ l. let e' = rw d at e in absurd (none-some m (rw l at e')))
     (cases_Bool (ltb k 4)))
     (λ (d : is_ascii_digit c ≡ false). ⊎_elim
     (λ (p : eqb c 46 ≡ true). ⊎_elim
-    (λ (z : eqb k 0 ≡ true). absurd (not_none m (rw (d, p, z) at e)))
+    (λ (z : eqb k 0 ≡ true). absurd (none-some m (rw (d, p, z) at e)))
     (λ (z : eqb k 0 ≡ false). at-point k c cs few (eqb-false k 0 z) (eqb-true c 46 p) (after-parts 0 n cs m (omega arith) (rw (d, p, z) at e)))
     (cases_Bool (eqb k 0)))
-    (λ (p : eqb c 46 ≡ false). absurd (not_none m (rw (d, p) at e)))
+    (λ (p : eqb c 46 ≡ false). absurd (none-some m (rw (d, p) at e)))
     (cases_Bool (eqb c 46)))
     (cases_Bool (is_ascii_digit c))
 
 mapped-some : {A B : Type 0} (f : A → B) (o : Option A) (v : B) → option_map f o ≡ Some v → (m : A) × (o ≡ Some m)
-mapped-some f None v e = absurd (not_none v e)
+mapped-some f None v e = absurd (none-some v e)
 mapped-some f (Some m) v e = (m, refl)
 
 -- a text with lawful parts
@@ -160,7 +158,7 @@ made m bs s = record {
 }
 
 pub to-parts : (bs : List ℕ) (v : ℤ) → number_of bs ≡ Some v → Made bs
-to-parts [] v e = absurd (not_none v e)
+to-parts [] v e = absurd (none-some v e)
 to-parts (c ∷ cs) v e =
     ⊎_elim
     (λ t. let m = mapped-some (signed true) (before_point 0 0 cs) v (rw t at e) in
@@ -169,12 +167,9 @@ to-parts (c ∷ cs) v e =
     made false (c ∷ cs) (before-parts 0 0 (c ∷ cs) m.0 (omega arith) m.1))
     (cases_Bool (eqb c 45))
 
-same_some : {A : Type 0} (x y : A) → ◌≡◌ {A = Option A} (Some x) (Some y) → x ≡ y
-same_some x y e = cc
-
 pub reads-exactly : (bs : List ℕ) → Exact bs
 reads-exactly bs v = (
   λ e. let m = to-parts bs v e in
-      record { parts = m.parts; text = m.text; lawful = m.lawful; value = same_some v (value_of m.parts) (sym e ∙ ap number_of m.text ∙ from_parts m.parts m.lawful) },
+      record { parts = m.parts; text = m.text; lawful = m.lawful; value = same_Some v (value_of m.parts) (sym e ∙ ap number_of m.text ∙ from_parts m.parts m.lawful) },
   λ r. ap number_of r.text ∙ from_parts r.parts r.lawful ∙ ap Some (sym r.value),
 )

@@ -1,9 +1,10 @@
 -- Masks: what 0x and digits read as, and the one plain text of a mask. Assumes nothing.
 use Rattle.std.proofs.Common.{◌≡◌, ℕ, ◌^◌, ◌<◌, ◌≤◌, true, false, ◌&&◌, ◌||◌, eqb, ◌⊎◌, List, [], ◌∷◌, length, get_or, drop, Some, None, Option, sym, refl, ap, ◌∙◌, inl, inr, ⊎_elim, arith}
+use Rattle.std.proofs.lemmas.Option.{none-some}
 use Rattle.std.proofs.lemmas.Bool.{and_parts, and_from, or_cases, or_left, or_right, eq-eqb, eqb-true, cases_Bool}
 use Rattle.grammar.specs.Masks.{ReadsMask, mask_of, ExactMask, CanonicalMask}
 use Rattle.grammar.specs.Numerals.{numeral_of, numeral}
-use Rattle.grammar.proofs.Radix.{read, parts, numeral-short, canonical, none-some}
+use Rattle.grammar.proofs.Radix.{read, parts, numeral-short, canonical}
 
 pub mask_at : (text : List ℕ) → 2 ≤ length text → get_or text 0 0 ≡ 48 → (get_or text 1 0 ≡ 120) ⊎ (get_or text 1 0 ≡ 88) → numeral_of 16 8 (drop 2 text) ≡ mask_of text
 mask_at [] h a b = absurd (omega arith)

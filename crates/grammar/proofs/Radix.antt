@@ -8,15 +8,10 @@ use Rattle.std.specs.List.{AllByRecursion}
 use Rattle.std.proofs.lemmas.Nat.{div-mul-add, mod-mul-add, le-div}
 use Rattle.std.proofs.lemmas.Int.Digits.{digits_of_step, length-digits_of-le, all_below_base_digits_of, first_digits_of, number_digits_of, number_after_ge, digits_value_is, digits_value-lt, digits_value_more, digits_more, all_below_base_from_digits}
 use Rattle.std.proofs.lemmas.List.{map_push, length_push, length-map, length-take-le, append-nil, nil_from_length, get_or-map}
+use Rattle.std.proofs.lemmas.Option.{none-some, same_Some}
 use Rattle.std.proofs.lemmas.Bool.{and_parts, and_from, ne_eqb, lt-ltb, ltb-true, le-leb, leb-true, cases_Bool, cases_eq, cond-true, cond-false}
 use Rattle.std.proofs.lemmas.Bool.Decides.{nat_tests}
 use Rattle.grammar.specs.Numerals.{ReadsNumeral, all_digits, numeral_of, ExactNumeral, digit_char, numeral, PlainNumeral, CanonicalNumeral}
-
-pub none-some : {A : Type 0} (x : A) → ◌≡◌ {A = Option A} None (Some x) → ⊥
-none-some x e = let z : ◌≡◌ {A = ℕ} 0 1 = cc in omega arith
-
-same_some : {A : Type 0} (x y : A) → ◌≡◌ {A = Option A} (Some x) (Some y) → x ≡ y
-same_some x y e = cc
 
 -- READING
 
@@ -49,7 +44,7 @@ parts b most ds n e =
       digits = all-to b ds p.0;
       some = leb-true 1 (length ds) q.0;
       few = leb-true (length ds) most q.1;
-      size = same_some n (digits_value b ds) (sym e ∙ cond-true _ _ _ t);
+      size = same_Some n (digits_value b ds) (sym e ∙ cond-true _ _ _ t);
     })
     (λ (t : (all_digits b ds && (leb 1 (length ds) && leb (length ds) most)) ≡ false). absurd (none-some n (sym (cond-false _ (Some (digits_value b ds)) None t) ∙ e)))
     (cases_Bool (all_digits b ds && (leb 1 (length ds) && leb (length ds) most)))
@@ -81,8 +76,8 @@ pub record More (b : ℕ) (ds : List ℕ) (n : ℕ) : Type 0 where
   pub size : n ≡ digits_value b ds
   pub fits : n < 2 ^ 32
 
-pub one-more : (b most : ℕ) (ds : List ℕ) (i n d : ℕ) → 2 ≤ b → i < length ds → length ds ≤ most → b ^ most ≤ 2 ^ 32 → (n ≡ digits_value b (take i ds)) × AllDigits b (take i ds) → (d ≡ digit_value (get_or ds i 0)) × (d < b) → More b (take (i + 1) ds) (n * b + d)
-one-more b most ds i n d two h few fits (is, all) (counts, low) =
+pub one-more : {b most i n d : ℕ} (ds : List ℕ) → 2 ≤ b → i < length ds → length ds ≤ most → b ^ most ≤ 2 ^ 32 → (n ≡ digits_value b (take i ds)) × AllDigits b (take i ds) → (d ≡ digit_value (get_or ds i 0)) × (d < b) → More b (take (i + 1) ds) (n * b + d)
+one-more {b} {most} {i} {n} {d} ds two h few fits (is, all) (counts, low) =
     let more = digits_more b ds i h all (omega arith) in
     let size : n * b + d ≡ digits_value b (take (i + 1) ds) = (λ t. is t * b + counts t) ∙ sym (digits_value_more b ds i h) in
     let l = length-take-le (i + 1) ds (omega arith) in

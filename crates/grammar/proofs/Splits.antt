@@ -1,35 +1,26 @@
--- The fields of a line: that they alone make it up. Assumes nothing.
-use Rattle.std.proofs.Common.{◌≡◌, ℕ, zero, suc, ◌+◌, ◌≤◌, Bool, true, false, cond, eqb, ltb, List, [], ◌∷◌, length, take, drop, Some, None, sym, refl, ap, ◌∙◌, arith, get_or-drop}
+-- The fields of a line: how they grow with its front, and that they alone make it up. Assumes nothing.
+use Rattle.std.proofs.Common.{◌≡◌, ℕ, zero, suc, ◌+◌, ◌≤◌, Bool, true, false, cond, eqb, List, [], ◌∷◌, ◌++◌, length, drop, Option, Some, None, subst, sym, refl, ap, ◌∙◌, arith, get_or-drop}
+use Rattle.std.specs.Borrow.{Bor}
+use Rattle.std.specs.Option.{unwrap_or}
 use Rattle.std.specs.Str.Iter.{LacksByte}
-use Rattle.std.specs.List.{All, slice_split, onto_first, join_with_byte, AllByRecursion, position, position_or_len}
-use Rattle.std.proofs.lemmas.Bool.{ne_eqb, ltb-true}
-use Rattle.std.proofs.lemmas.Grind.{common_steps}
+use Rattle.std.proofs.lemmas.Iterator.{YieldsList}
+use Rattle.std.specs.List.{All, slice_split, onto_first, join_with_byte, AllByRecursion}
+use Rattle.std.proofs.lemmas.Bool.{ne_eqb, cond-false}
 use Rattle.std.proofs.lemmas.List.{get_or_default}
-use Rattle.std.proofs.lemmas.List.Sums.{fails_before_first}
-use Rattle.std.proofs.lemmas.List.Splits.{slice_split_none, slice_split_at, slice_split_first, length-slice_split, join_with_byte-slice_split}
+use Rattle.std.proofs.lemmas.List.Splits.{slice_split_none, slice_split_at, length-slice_split, join_with_byte-slice_split}
 use Rattle.grammar.specs.Fields.{fields, field, ExactFields}
 
 -- the field after the first ones
 pub field-after : (k : ℕ) (fs gs : List (List ℕ)) → gs ≡ drop k fs → field 0 gs ≡ field k fs
 field-after k fs gs e = ap (field 0) e ∙ get_or-drop k fs 0 [] ∙ (let e : k + 0 ≡ k = omega arith in ap (λ j. field j fs) e)
 
-at_first : (b : Bool) (n i : ℕ) → cond b (Some n) None ≡ Some i → (b ≡ true) × (n ≡ i)
-at_first true n i e = (refl, cc)
-at_first false n i e = absurd cc
-
-no_first : (n m : ℕ) → cond (ltb n m) (Some n) None ≡ None → m ≤ n
-no_first n m e = grind (arith, common_steps)
-
--- the first field ends at the first colon
-pub first-found : (s : List ℕ) (i : ℕ) → position (λ c. eqb c 58) s ≡ Some i → fields s ≡ take i s ∷ fields (drop (i + 1) s)
-unfolding fields
-first-found s i e =
-    let h = at_first (ltb (position_or_len (λ c. eqb c 58) s) (length s)) _ i e in
-    slice_split_first (λ c. eqb c 58) s 0 (ltb-true _ _ h.0) ∙ ap (λ j. take j s ∷ slice_split (λ c. eqb c 58) (drop (j + 1) s)) h.1
-
-pub first-all : (s : List ℕ) → position (λ c. eqb c 58) s ≡ None → fields s ≡ s ∷ []
-unfolding fields
-first-all s e = slice_split_none (λ c. eqb c 58) s (λ k d l. fails_before_first (λ c. eqb c 58) s k d (omega (arith, no_first _ _ e)))
+-- what `next` gives of an iterator over fields: the first that is left or else an empty one, and after it the others are left
+pub given-field : {S : Type 0} {steps : S → Option (Bor (List ℕ)) → S → Type 0} (s t : S) (r : Option (Bor (List ℕ))) (d : Bor (List ℕ)) (fs : List (List ℕ)) → steps s r t → ((s t : S) → steps s None t → t ≡ s) → d.now ≡ [] → YieldsList steps (λ x. x.now) s fs
+    → ((unwrap_or r d).now ≡ field 0 fs) × YieldsList steps (λ x. x.now) t (drop 1 fs)
+given-field {steps = steps} s t None d [] k stays e y = (e, subst (λ u. YieldsList steps (λ x. x.now) u []) (sym (stays s t k)) y)
+given-field s t None d (f ∷ fs) k stays e y = let m = y.runs in absurd (m.0 t k)
+given-field s t (Some x) d [] k stays e y = let m = y.runs in absurd (m x t k)
+given-field s t (Some x) d (f ∷ fs) k stays e y = let m = y.runs in let n = m.1 x t k in (n.0, record { runs = n.1 })
 
 -- THE LAW OF THE FIELDS
 
@@ -49,14 +40,43 @@ no_colon (c ∷ cs) = onto-lacks (eqb c 58) c _ refl (no_colon cs)
 lacking : (f : List ℕ) → LacksByte 58 f → All (λ c. eqb c 58 ≡ false) f
 lacking f h k d l = ne_eqb _ 58 (λ e. h k l (get_or_default f k 0 d l ∙ e))
 
-rejoined-fields : (fs : List (List ℕ)) → 1 ≤ length fs → AllByRecursion (LacksByte 58) fs → slice_split (λ c. eqb c 58) (join_with_byte 58 fs) ≡ fs
+-- a line has a first field
+pub first_field : (s : List ℕ) → (f : List ℕ) × (fs : List (List ℕ)) × (fields s ≡ f ∷ fs)
+unfolding fields
+first_field [] = ([], [], refl)
+first_field (c ∷ cs) = first (eqb c 58) (first_field cs)
+  where
+    first : (b : Bool) → (f : List ℕ) × (fs : List (List ℕ)) × (fields cs ≡ f ∷ fs) → (f : List ℕ) × (fs : List (List ℕ)) × (cond b ([] ∷ fields cs) (onto_first c (fields cs)) ≡ f ∷ fs)
+    first true r = ([], fields cs, refl)
+    first false r = (c ∷ r.0, r.1, ap (onto_first c) r.2)
+
+pub at_other : (c : ℕ) (cs : List ℕ) → (c ≡ 58 → ⊥) → fields (c ∷ cs) ≡ onto_first c (fields cs)
+unfolding fields
+at_other c cs e = cond-false _ _ _ (ne_eqb c 58 e)
+
+pub join_front : (c : ℕ) (f : List ℕ) (fs : List (List ℕ)) → join_with_byte 58 ((c ∷ f) ∷ fs) ≡ c ∷ join_with_byte 58 (f ∷ fs)
+join_front c f [] = refl
+join_front c f (g ∷ gs) = refl
+
+pub lacks_rest : (c : ℕ) (f : List ℕ) → LacksByte 58 (c ∷ f) → LacksByte 58 f
+lacks_rest c f h k l e = h (suc k) (omega arith) e
+
+pub one_field : (f : List ℕ) → LacksByte 58 f → fields f ≡ f ∷ []
+unfolding fields
+one_field f h = slice_split_none (λ c. eqb c 58) f (lacking f h)
+
+pub next_field : (f s : List ℕ) → LacksByte 58 f → fields (f ++ (58 ∷ s)) ≡ f ∷ fields s
+unfolding fields
+next_field f s h = slice_split_at (λ c. eqb c 58) f 58 s (lacking f h) refl
+
+rejoined-fields : (fs : List (List ℕ)) → 1 ≤ length fs → AllByRecursion (LacksByte 58) fs → fields (join_with_byte 58 fs) ≡ fs
 rejoined-fields [] some h = absurd (omega arith)
-rejoined-fields (f ∷ []) some h = slice_split_none (λ c. eqb c 58) f (lacking f h.0)
-rejoined-fields (f ∷ g ∷ gs) some h = slice_split_at (λ c. eqb c 58) f 58 _ (lacking f h.0) refl ∙ ap (λ (x : List (List ℕ)). f ∷ x) (rejoined-fields (g ∷ gs) (omega arith) h.1)
+rejoined-fields (f ∷ []) some h = one_field f h.0
+rejoined-fields (f ∷ g ∷ gs) some h = next_field f (join_with_byte 58 (g ∷ gs)) h.0 ∙ ap (λ (x : List (List ℕ)). f ∷ x) (rejoined-fields (g ∷ gs) (omega arith) h.1)
 
 pub fields-exactly : (s : List ℕ) → ExactFields s
 unfolding fields
 fields-exactly s = record {
   split = record { some = omega (arith, length-slice_split (λ c. eqb c 58) s); whole = join_with_byte-slice_split 58 s; no_colon = no_colon s };
-  only = λ fs r. sym (rejoined-fields fs r.some r.no_colon) ∙ ap (slice_split (λ c. eqb c 58)) r.whole;
+  only = λ fs r. sym (rejoined-fields fs r.some r.no_colon) ∙ ap fields r.whole;
 }

@@ -1,6 +1,5 @@
 -- The fields of a line, which is split at its colons. Assumes nothing.
-use Rattle.std.specs.Prelude.{◌≡◌, ℕ, ◌≤◌, List, [], length, Some, None, Option, ◌==◌, slice_index_or}
-use Rattle.std.specs.Borrow.{Bor}
+use Rattle.std.specs.Prelude.{◌≡◌, ℕ, ◌≤◌, List, [], length, ◌==◌, slice_index_or}
 use Rattle.std.specs.Str.Iter.{LacksByte}
 use Rattle.std.specs.List.{slice_split, join_with_byte, AllByRecursion}
 
@@ -11,11 +10,6 @@ fields line = slice_split (λ c. c == 58) line
 -- the field at a place, empty where there is none
 abbrev pub field : ℕ → List (List ℕ) → List ℕ
 field k fs = slice_index_or fs k []
-
--- the fields after a colon, if there is one
-abbrev pub fields_after : Option (Bor (List ℕ)) → List (List ℕ)
-fields_after None = []
-fields_after (Some rest) = fields rest.now
 
 -- THE LAW: fields with a colon between each and the next that make up the line, and none of which has a colon
 pub record SplitAtColons (line : List ℕ) (fs : List (List ℕ)) : Type 0 where

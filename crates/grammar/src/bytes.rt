@@ -1,5 +1,6 @@
 // Up to N bytes of any value, kept in place: what texts, replies and images are put together in.
-// An array with a length, and no Vec or String, because nothing below the programs allocates.
+// An array with a length: nothing below the programs allocates, and the library's vectors of fixed capacity
+// are not `Copy`, as a request has to be.
 ghost use Rattle.std.specs.Prelude.{◌≤◌};
 
 #[derive(Clone, Copy)]

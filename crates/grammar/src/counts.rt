@@ -25,6 +25,6 @@ pub fn print_count(n: u32) -> Text
     ensures canonical { CanonicalNumeral 10 n }
 {
     let mut text = Text::absent();
-    push_digits(&mut text, Base::DECIMAL, n as u64);
+    push_digits(&mut text, Base::DECIMAL, u64::from(n));
     text
 }

@@ -35,12 +35,13 @@ fn digit_value(c: u8, base: Base) -> Option<u32>
     char::from(c).to_digit(base.value)
 }
 
-// The digits of `n`, upper-case and without leading zeros.
+// The digits of `n`, upper-case and without leading zeros. Room is asked for: see Bytes::push.
+// Written out, and not by `write!`, which answers a Result that no contract says is Ok.
 pub(crate) fn push_digits(text: &mut Text, base: Base, n: u64)
     requires { length (bytes_of text.old) + length (numeral base.value n) ≤ 24 }
     ensures bytes { bytes_of text.new ≡ bytes_of text.old ++ numeral base.value n }
 {
-    let radix = base.value as u64;
+    let radix = u64::from(base.value);
     if n < radix {
         text.push(digit_char(n as u8));
         return;

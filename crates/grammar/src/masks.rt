@@ -28,6 +28,6 @@ pub fn print_mask(mask: u32) -> Text
 {
     let mut text = Text::absent();
     text.extend(b"0x");
-    push_digits(&mut text, Base::HEXADECIMAL, mask as u64);
+    push_digits(&mut text, Base::HEXADECIMAL, u64::from(mask));
     text
 }

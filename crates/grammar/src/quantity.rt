@@ -15,14 +15,12 @@ impl Quantity {
 
     const MOST: i64 = 9_999_999_999;
 
-    // The quantity of these millionths; none where they are out of range.
+    // The quantity of these millionths; none where they are out of range. With a guard, since `then_some` would make the
+    // quantity before the test, and what a closure makes is not known to be in range.
     pub fn new(millionths: i64) -> Option<Quantity>
         ensures cases { MatchOption result (in_range millionths ≡ false) (λ q. q.millionths ≡ millionths) }
     {
-        if millionths < Self::LEAST {
-            return None;
-        }
-        if millionths > Self::MOST {
+        if !(Self::LEAST..=Self::MOST).contains(&millionths) {
             return None;
         }
         Some(Quantity { millionths })

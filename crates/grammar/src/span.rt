@@ -15,6 +15,6 @@ impl Span {
     pub fn contains(self, v: Quantity) -> bool
         ensures value { result ≡ spans self.low.millionths self.high.millionths v.millionths }
     {
-        self.low <= v && v <= self.high
+        (self.low..=self.high).contains(&v)
     }
 }

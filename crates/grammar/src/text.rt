@@ -1,5 +1,5 @@
 // The one type for short texts: up to 24 bytes of any value, kept as they were typed.
-// Length 0 means that there is none.
+// Length 0 means that there is none: the image of cells has no other way to say so.
 use crate::bytes::Bytes;
 
 // The most bytes that a text can have.

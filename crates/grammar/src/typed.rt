@@ -28,7 +28,7 @@ pub fn read_text(bytes: &[u8]) -> Option<Text>
 fn is_text_length(n: usize) -> bool
     ensures value { result ≡ nat_le 1 n && nat_le n 24 }
 {
-    n >= 1 && n <= TEXT_MOST
+    (1..=TEXT_MOST).contains(&n)
 }
 
 fn all_text_bytes(bytes: &[u8]) -> bool

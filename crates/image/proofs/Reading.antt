@@ -1,17 +1,13 @@
 -- The steps of reading an image. Assumes nothing.
-use Rattle.std.proofs.Common.{◌≡◌, ℕ, ◌+◌, ◌-◌, ◌*◌, ◌<◌, ◌≤◌, Bool, true, false, ◌&&◌, eqb, leb, List, [], ◌∷◌, ◌++◌, length, get_or, take, drop, set, replicate, Some, None, Option, map, sym, refl, ap, ◌∙◌, arith}
-use Rattle.std.proofs.lemmas.List.{take_rest, get_or-map, get_or-drop, length-drop, drop-drop, drop_more, take_more_set, append_assoc, take_all, drop_all, append-nil}
+use Rattle.std.proofs.Common.{◌≡◌, ℕ, ◌+◌, ◌-◌, ◌*◌, ◌<◌, ◌≤◌, Bool, true, false, ◌&&◌, eqb, leb, List, [], ◌∷◌, ◌++◌, length, get_or, take, drop, set, replicate, Some, None, Option, sym, refl, ap, ◌∙◌, arith}
+use Rattle.std.proofs.lemmas.List.{take_rest, get_or-drop, length-drop, drop-drop, drop_more, take_more_set, append_assoc, take_all, drop_all, append-nil}
 use Rattle.std.proofs.lemmas.Bool.{and_from, lt-ltb, and_parts, leb-true, cond-true, cond-false, le-leb, lt-leb}
 use Rattle.cells.specs.Values.{Value, absent}
 use Rattle.image.specs.Image.{from16, sized, value_in, after, lawful, parse, or_absent, decoded, Pair}
 use Rattle.cells.specs.declared.roles.Kind.{Kind}
 use Rattle.cells.specs.declared.roles.Kind.TheVariants.{Number}
-use Rattle.cells.specs.declared.roles.Role.{Role}
-use Rattle.cells.specs.declared.roles.Role.TheVariants.{Model}
-use Rattle.cells.specs.Directory.{roles, kinds}
 use Rattle.cells.specs.Sorts.{kinds-39, values-39}
-use Rattle.cells.proofs.Listed.{listed_length}
-use Rattle.cells.specs.Roles.{kind_of}
+use Rattle.cells.proofs.Listed.{listed_length, listed_kind}
 use Rattle.cells.specs.Kinded.{values_in}
 use Rattle.cells.specs.declared.array.CellArray.{CellArray}
 use Rattle.std.specs.Option.{option_map, unwrap_or}
@@ -21,10 +17,6 @@ from16-drop bs n j =
     let a = get_or-drop n bs j 0 in
     let b : get_or (drop n bs) (j + 1) 0 ≡ get_or bs (n + j + 1) 0 = get_or-drop n bs (j + 1) 0 ∙ ap (λ (m : ℕ). get_or bs m 0) (omega arith) in
     rw (a, b)
-
--- the kind of a role at a place of a list that is the directory
-pub kind-at : (rs : List Role) (i : ℕ) (k : Kind) → rs ≡ roles → i < length rs → k ≡ kind_of (get_or rs i Model) → k ≡ get_or kinds i Number
-kind-at rs i k e l q = q ∙ sym (get_or-map kind_of rs i Model Number l) ∙ ap (λ (xs : List Role). get_or (map kind_of xs) i Number) e
 
 -- a pair that tells offset o and size s, of a cell of kind k
 module _ (k : Kind) (bs : List ℕ) (i at o s : ℕ) (p : o ≡ from16 bs (4 * i)) (q : s ≡ from16 bs (4 * i + 2)) where
@@ -82,6 +74,9 @@ pub decoded-short : (ks : List Kind) (bs : List ℕ) → length bs < 4 * length 
 unfolding decoded
 decoded-short ks bs l = cond-false (leb (4 * length ks) (length bs)) _ _ (lt-leb _ _ l)
 
+pub all_three : (a b x : Bool) → a ≡ true → true ≡ b → x ≡ (a && (b && x))
+all_three a b x p q = rw (p, ← q)
+
 pub rest_all : (ks : List Kind) (bs : List ℕ) (i at : ℕ) (vs : List Value) → length ks ≤ i → length vs ≤ i → onto (take i vs) (rest ks bs i at) ≡ Some vs
 rest_all ks bs i at vs lk lv =
     ap (λ (x : List Kind). onto (take i vs) (parse x at (drop (4 * i) bs) (drop at bs))) (drop_all i ks lk)
@@ -100,4 +95,4 @@ read_or_absent None d e = e
 read_or_absent (Some c) d e = refl
 
 -- what the loop over the pairs uses
-pub ruleset reading = (listed_length, kind-at, lawful-is, pair_is, rest_more, rest-stop, rest_all, decoded-at, decoded-less, kinds-39, values-39, take_rest, and_from, lt-ltb)
+pub ruleset reading = (listed_length, listed_kind, lawful-is, pair_is, rest_more, rest-stop, rest_all, decoded-at, decoded-less, kinds-39, values-39, take_rest, and_from, lt-ltb)

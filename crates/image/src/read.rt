@@ -1,9 +1,9 @@
 // Reading the image of cells.
-ghost use Rattle.std.specs.Prelude.{◌≡◌, ◌+◌, ◌*◌, ◌<◌, ◌≤◌, true, false, length, take, drop, MatchOption};
+ghost use Rattle.std.specs.Prelude.{◌≡◌, ◌+◌, ◌*◌, ◌<◌, ◌≤◌, true, false, length, take, MatchOption};
 ghost use Rattle.std.specs.Option.{option_map};
 ghost use Rattle.cells.specs.Directory.{kinds};
 ghost use Rattle.cells.specs.Kinded.{fits, values_in};
-ghost use Rattle.cells.specs.Values.{slot_of, spoken};
+ghost use Rattle.cells.specs.Values.{slot_of};
 ghost use Rattle.image.specs.Image.{from16, sized, value_in, agrees, or_absent, decoded, Means};
 
 use crate::write::CONTENTS;
@@ -46,7 +46,8 @@ struct Pair {
 }
 
 impl Pair {
-    // The pair of the cell at a place of the directory.
+    // The pair of the cell at a place of the directory. By its place, and not by chunks of four bytes: the same turn of
+    // the loop reads the contents, from elsewhere in the same bytes.
     fn read(bytes: &[u8], i: usize) -> Pair
         requires { 4 * i + 4 ≤ length bytes.now }
         ensures offset { result.offset ≡ from16 bytes.now (4 * i) }
@@ -75,7 +76,7 @@ fn number_at(bytes: &[u8], i: usize) -> usize
     requires { i + 1 < length bytes.now }
     ensures value { result ≡ from16 bytes.now i }
 {
-    u16::from_be_bytes([bytes[i], bytes[i + 1]]) as usize
+    usize::from(u16::from_be_bytes([bytes[i], bytes[i + 1]]))
 }
 
 // Whether a cell of this kind may have this length.
@@ -99,12 +100,8 @@ fn read_value(kind: Kind, bytes: &[u8]) -> Option<Stored>
         return None;
     }
     match kind {
-        Kind::Number => Some(Stored::Number(i64::from_be_bytes([
-            bytes[0], bytes[1], bytes[2], bytes[3], bytes[4], bytes[5], bytes[6], bytes[7],
-        ]))),
-        Kind::Mask => Some(Stored::Mask(u32::from_be_bytes([
-            bytes[0], bytes[1], bytes[2], bytes[3],
-        ]))),
+        Kind::Number => Some(Stored::Number(i64::from_be_bytes(<[u8; 8]>::try_from(bytes).ok()?))),
+        Kind::Mask => Some(Stored::Mask(u32::from_be_bytes(<[u8; 4]>::try_from(bytes).ok()?))),
         Kind::Text => Text::new(bytes).map(Stored::Text),
     }
 }

@@ -18,6 +18,7 @@ fn size_of(slot: &Option<Stored>) -> usize
     slot.map_or(0, size_of_value)
 }
 
+// Beside `write_value`, since its size is wanted before there is a sink; made of its bytes it would be no plainer.
 fn size_of_value(value: Stored) -> usize
     ensures value { result ≡ length (content (stored_of value)) }
     ensures bound { result ≤ 24 }
@@ -46,9 +47,8 @@ fn contents_len(cells: &CellArray) -> usize
 
 // Writes the bytes of what there is in a slot.
 fn write_slot<S: Sink>(slot: &Option<Stored>, out: &mut S)
-    requires { length (S.written out.old) + length (content (slot_of slot.now)) ≤ S.room out.old }
+    requires { length (S.written out.old) + length (content (slot_of slot.now)) ≤ S.ROOM }
     ensures written { S.written out.new ≡ S.written out.old ++ content (slot_of slot.now) }
-    ensures room { S.room out.new ≡ S.room out.old }
 {
     if let Some(value) = *slot {
         write_value(value, out);
@@ -56,9 +56,8 @@ fn write_slot<S: Sink>(slot: &Option<Stored>, out: &mut S)
 }
 
 fn write_value<S: Sink>(value: Stored, out: &mut S)
-    requires { length (S.written out.old) + length (content (stored_of value)) ≤ S.room out.old }
+    requires { length (S.written out.old) + length (content (stored_of value)) ≤ S.ROOM }
     ensures written { S.written out.new ≡ S.written out.old ++ content (stored_of value) }
-    ensures room { S.room out.new ≡ S.room out.old }
 {
     match value {
         Stored::Number(v) => out.push(&v.to_be_bytes()),
@@ -71,9 +70,8 @@ fn write_value<S: Sink>(value: Stored, out: &mut S)
 fn write_pair<S: Sink>(at: usize, size: usize, out: &mut S)
     requires at { at < 65536 }
     requires size { size < 65536 }
-    requires space { length (S.written out.old) + 4 ≤ S.room out.old }
+    requires space { length (S.written out.old) + 4 ≤ S.ROOM }
     ensures written { S.written out.new ≡ S.written out.old ++ (be16 at ++ be16 size) }
-    ensures room { S.room out.new ≡ S.room out.old }
 {
     let [a, b] = (at as u16).to_be_bytes();
     let [c, d] = (size as u16).to_be_bytes();
@@ -84,9 +82,8 @@ fn write_pair<S: Sink>(at: usize, size: usize, out: &mut S)
 #[tactic(auto, using(crate::proofs::Writing::pair_steps))]
 fn write_pairs<S: Sink>(cells: &CellArray, out: &mut S)
     requires empty { S.written out.old ≡ [] }
-    requires space { 156 ≤ S.room out.old }
+    requires space { 156 ≤ S.ROOM }
     ensures written { S.written out.new ≡ directory 156 (values_in cells.now.slots) }
-    ensures room { S.room out.new ≡ S.room out.old }
 {
     let slots = cells.as_slice();
     let mut at = CONTENTS;
@@ -100,9 +97,8 @@ fn write_pairs<S: Sink>(cells: &CellArray, out: &mut S)
 // Writes the contents of the cells.
 #[tactic(auto, using(crate::proofs::Writing::content_steps))]
 fn write_contents<S: Sink>(cells: &CellArray, out: &mut S)
-    requires space { length (S.written out.old) + length (contents (values_in cells.now.slots)) ≤ S.room out.old }
+    requires space { length (S.written out.old) + length (contents (values_in cells.now.slots)) ≤ S.ROOM }
     ensures written { S.written out.new ≡ S.written out.old ++ contents (values_in cells.now.slots) }
-    ensures room { S.room out.new ≡ S.room out.old }
 {
     let slots = cells.as_slice();
     for slot in slots {
@@ -114,9 +110,8 @@ fn write_contents<S: Sink>(cells: &CellArray, out: &mut S)
 #[tactic(auto, using(crate::proofs::Writing::image_parts))]
 pub(crate) fn write_image<S: Sink>(cells: &CellArray, out: &mut S)
     requires empty { S.written out.old ≡ [] }
-    requires space { length (encoded (values_in cells.now.slots)) ≤ S.room out.old }
+    requires space { length (encoded (values_in cells.now.slots)) ≤ S.ROOM }
     ensures written { S.written out.new ≡ encoded (values_in cells.now.slots) }
-    ensures room { S.room out.new ≡ S.room out.old }
 {
     write_pairs(cells, out);
     write_contents(cells, out);

@@ -11,11 +11,13 @@ ghost use Rattle.request.specs.Requests.{request_of, switch_on, save, choose_loo
 ghost use Rattle.request.specs.declared.refusals.LineRefusal.TheVariants.{WhileOn, OutsideRating, RateNotPositive};
 ghost use Rattle.request.specs.declared.requests.Question.TheVariants.{Cell as OfCell};
 
-use crate::facts::{is_panel_in_remote, is_socket_in_local, is_within};
+use crate::facts::{comes_from, is_within};
 use cells::{CellValue, Ratings, Role, Writer};
 use grammar::{Quantity, Text, same_word};
 use power::Loop;
-use request::{Access, Approach, Cell, Circumstances, LineRefusal, Question, Request};
+use request::{
+    Access, Approach, Cell, Circumstances, Control, LineRefusal, Origin, Question, Request,
+};
 
 // Nothing where the request is accepted, else the first ground against it.
 pub fn decide(request: &Request, c: &Circumstances) -> Result<(), LineRefusal>
@@ -23,8 +25,14 @@ pub fn decide(request: &Request, c: &Circumstances) -> Result<(), LineRefusal>
 {
     // All but the questions are writes.
     if !matches!(request, Request::Ask(_)) {
-        refuse_if(is_panel_in_remote(c), LineRefusal::PanelInRemote)?;
-        refuse_if(is_socket_in_local(c), LineRefusal::SocketInLocal)?;
+        refuse_if(
+            comes_from(c, Origin::Panel, Control::Remote),
+            LineRefusal::PanelInRemote,
+        )?;
+        refuse_if(
+            comes_from(c, Origin::Socket, Control::Local),
+            LineRefusal::SocketInLocal,
+        )?;
     }
     decide_further(request, c)
 }
@@ -125,6 +133,8 @@ fn decide_write(cell: Cell, value: CellValue, c: &Circumstances) -> Result<(), L
 {
     let allowed = may_write(cell.role.writer(), c.access == Access::Admin);
     refuse_if(!allowed, LineRefusal::NotAllowed)?;
+    // A match, and no table of functions: a limit goes by the circumstances, a start rate does not, and other cells
+    // have no ground of their own.
     match cell.role {
         Role::LowI | Role::HighI | Role::LowV | Role::HighV => decide_limit(cell.role, value, c),
         Role::RateI | Role::RateV => decide_start_rate(value),
@@ -163,6 +173,7 @@ fn may_write(writer: Writer, admin: bool) -> bool
     }
 }
 
+// Over cells' values, where the cells' own `lawful_value` goes by raw ones.
 fn is_lawful(role: Role, rated: &Ratings, value: CellValue) -> bool
     ensures value { result ≡ lawful rated.now role (value_of value) }
 {

@@ -1,25 +1,18 @@
 // What circumstances say of a request.
-ghost use Rattle.std.specs.Prelude.{◌≡◌, not, ◌&&◌};
+ghost use Rattle.std.specs.Prelude.{◌≡◌, ◌&&◌};
 ghost use Rattle.request.specs.Bounds.{bounds_of};
-ghost use Rattle.request.specs.Facts.{is_panel, is_local, low_of, high_of, within};
+ghost use Rattle.request.specs.Facts.{same_origin, same_control, low_of, high_of, within};
 
 use cells::{Ratings, Span};
 use grammar::Quantity;
 use power::Loop;
 use request::{Circumstances, Control, Origin};
 
-// The two rows of the table on control. Each is a function of its own: with both tests in `decide` the search found
-// no proof of it.
-pub(crate) fn is_panel_in_remote(c: &Circumstances) -> bool
-    ensures value { result ≡ is_panel c.now.origin && not (is_local c.now.control) }
+// Whether a line comes from there while control is so.
+pub(crate) fn comes_from(c: &Circumstances, origin: Origin, control: Control) -> bool
+    ensures value { result ≡ same_origin origin c.now.origin && same_control control c.now.control }
 {
-    c.origin == Origin::Panel && c.control == Control::Remote
-}
-
-pub(crate) fn is_socket_in_local(c: &Circumstances) -> bool
-    ensures value { result ≡ not (is_panel c.now.origin) && is_local c.now.control }
-{
-    c.origin == Origin::Socket && c.control == Control::Local
+    c.origin == origin && c.control == control
 }
 
 // Whether a setpoint of this loop is inside the span that it has here, ends included.

@@ -3,7 +3,6 @@
 
 ghost use Rattle.std.specs.Prelude.{◌≡◌};
 ghost use Rattle.power.specs.Magnets.{magnet_meaning};
-ghost use Rattle.power.specs.Meaning.{low, high};
 
 use cells::Ratings;
 use grammar::Text;
@@ -92,7 +91,7 @@ fn circumstances_of(magnet: &Magnet) -> Circumstances
         origin: Origin::Socket,
         control: Control::Remote,
         access: Access::User,
-        password: Text::new(b"PS-ADMIN").unwrap_or(Text::absent()),
+        password: Text::new(b"PS-ADMIN").unwrap(),
         tripped: false,
         on: magnet.is_on(),
         present: magnet.present_loop(),

@@ -9,14 +9,14 @@ use Rattle.power.specs.Meaning.{Ranged, Sound, trip_lines}
 use Rattle.power.specs.Recordings.{readings_of}
 use Rattle.power.specs.declared.recording.Record.{Record}
 
-clamp-ranged : (v : ℤ) → Ranged (clamp v)
+pub clamp-ranged : (v : ℤ) → Ranged (clamp v)
 clamp-ranged v = (grind (arith, ints), grind (arith, ints))
 
 -- a mask put on twice is put on once
-and_again : (n : ℕ) (a : ℕ) → bit_and (bit_and a n) n ≡ bit_and a n
+pub and_again : (n : ℕ) (a : ℕ) → bit_and (bit_and a n) n ≡ bit_and a n
 and_again n a = and_assoc n a n ∙ ap (bit_and a) (and_self n)
 
-masked : (x : ℕ) → bit_and (bit_and x trip_lines) trip_lines ≡ bit_and x trip_lines
+pub masked : (x : ℕ) → bit_and (bit_and x trip_lines) trip_lines ≡ bit_and x trip_lines
 masked x = and_again trip_lines x
 
 pub kept-sound : (r : Record) → Sound 4 (readings_of r)

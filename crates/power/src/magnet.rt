@@ -1,6 +1,6 @@
 // A magnet and its supply, as a model that computes its readings.
 // Its current stays within 20 A: that comes with the value.
-ghost use Rattle.std.specs.Prelude.{ℤ, pos, negsuc, ◌≤ℤ◌};
+ghost use Rattle.std.specs.Prelude.{pos, negsuc, ◌≤ℤ◌};
 
 use crate::supply::Supply;
 

@@ -19,8 +19,8 @@ pub trait Plant {
     ghost steps: { Setting → Self → Self → Type 0 };
 
     // One millisecond.
-    fn advance(&mut self, told: Setting)
-        ensures step { steps told self.old self.new };
+    fn advance(&mut self, setting: Setting)
+        ensures step { steps setting self.old self.new };
 
     // The trip lines that are up now, as bits of the status register.
     fn lines(&self) -> u32

@@ -1,6 +1,7 @@
 // What a supply is told: on or off, the loop, and the demand.
 // The demand lies inside the rated span of the loop, and is zero while off: that comes with the value.
-ghost use Rattle.std.specs.Prelude.{◌≡◌, false, ℤ, pos, ◌≤ℤ◌};
+// It is no Option: a module has a demand on and off, and it is zero while off.
+ghost use Rattle.std.specs.Prelude.{◌≡◌, false, pos, ◌≤ℤ◌};
 ghost use Rattle.power.specs.Meaning.{low, high};
 ghost use Rattle.power.specs.Rated.{standard_ratings};
 

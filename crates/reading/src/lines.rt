@@ -34,8 +34,8 @@ pub fn read_line(line: &[u8], sensors: u8) -> Result<Request, LineRefusal>
     read_fields(command, sensors, &fields)
 }
 
-// A match, which has to be complete, and no table of functions: the commands want other fields.
 // What a command with these fields asks; there are as many as it may have.
+// A match, which has to be complete, and no table of functions: the commands want different fields.
 fn read_fields(command: Command, sensors: u8, fields: &Fields<'_>) -> Result<Request, LineRefusal>
     ensures cases { ReadsFields sensors command fields.now result }
 {

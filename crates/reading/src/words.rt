@@ -46,7 +46,7 @@ pub(crate) fn sensor_exists(sensors: u8, index: u32) -> bool
     (1..=u32::from(sensors)).contains(&index)
 }
 
-// A word that may be a password; none where it is no text.
+// A word that may be a password; none where it is no text. Its contract says so in the words of a password.
 pub(crate) fn read_word(word: &[u8]) -> Option<Text>
     ensures value { option_map bytes_of result ≡ word_of word.now }
 {

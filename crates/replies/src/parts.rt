@@ -10,7 +10,8 @@ use request::{Access, Question};
 // The most bytes of a value: a text, and the version after it.
 const TOLD_MOST: usize = 28;
 
-// Adds bytes at the end.
+// Adds bytes at the end. The same clauses as the own private `extend` of Bytes in grammar, because no public call asks
+// anything of its caller.
 pub(crate) fn extend<const N: usize>(bytes: &mut Bytes<N>, more: &[u8])
     requires { length (bytes_of bytes.old) + length more.now ≤ N }
     ensures bytes { bytes_of bytes.new ≡ bytes_of bytes.old ++ more.now }
@@ -40,7 +41,9 @@ fn after_colon(bytes: &[u8]) -> Text
     text
 }
 
-// The value that answers. Put together part by part: `write!` into bytes would answer a Result that is never an error.
+// The value that answers. Put together part by part, and not by `write!`, since a text is any bytes and its Display
+// shows a note in place of what is no UTF-8. A match, which has to be complete, and no table of functions: each answer
+// has another part.
 pub(crate) fn told(answer: &Answer) -> Bytes<TOLD_MOST>
     ensures value { bytes_of result ≡ told_text (told_of answer.now) }
 {
@@ -60,7 +63,7 @@ pub(crate) fn told(answer: &Answer) -> Bytes<TOLD_MOST>
     told
 }
 
-// Bytes, as replies are made of, and by nobody else.
+// A name in bytes. A Display would be no plainer: bytes, as replies are made of, with one caller.
 fn access_name(access: Access) -> &'static [u8]
     ensures value { result.now ≡ access_text access }
     ensures bound { length result.now ≤ 5 }

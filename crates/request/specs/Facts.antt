@@ -1,5 +1,5 @@
 -- The facts on which it depends whether a request is accepted, in plain values. Assumes nothing.
-use Rattle.std.specs.Prelude.{ℕ, Bool, true, false, List, ℤ}
+use Rattle.std.specs.Prelude.{ℕ, Bool, true, false, not, List, ℤ}
 use Rattle.request.specs.Bounds.{Bounds, bounds_of}
 use Rattle.grammar.specs.Range.{spans}
 use Rattle.grammar.specs.Texts.{bytes_of}
@@ -49,6 +49,14 @@ is_panel Socket = false
 abbrev pub is_local : Control → Bool
 is_local Local = true
 is_local Remote = false
+
+abbrev pub same_origin : Origin → Origin → Bool
+same_origin Panel o = is_panel o
+same_origin Socket o = not (is_panel o)
+
+abbrev pub same_control : Control → Control → Bool
+same_control Local k = is_local k
+same_control Remote k = not (is_local k)
 
 abbrev pub is_admin : Access → Bool
 is_admin User = false

@@ -29,7 +29,8 @@ pub enum Command {
     Mrt,
 }
 
-// The commands in the order in which a word is compared with their names.
+// The commands in the order in which a word is compared with their names. Written out, since an enum has no list of its
+// variants.
 static COMMANDS: [Command; 20] = [
     Command::Mon,
     Command::Moff,

@@ -148,6 +148,26 @@ fn show_magnet(rt: &HostRuntime, elapsed: u32, magnet: &Magnet) -> io::Result<()
 
 // Three cells, saved into the bytes of an image and read from them again.
 fn keep_cells(rt: &HostRuntime) -> io::Result<()> {
+    introduce_cells(rt)?;
+    let mut store = ImageStore::new(vec![in rt.alloc(); 0u8; 200]?);
+    // Unwrapped, it would need a proof of its own here.
+    if let Some(name) = Text::new(b"HALL-B-Q7") {
+        store.set(1, Stored::Text(name));
+    }
+    store.set(11, Stored::Number(5_000_000));
+    if keep_number(&mut store, 100, -2).is_err() {
+        return println!(rt; "  The image does not fit its 200 bytes.");
+    }
+    for cell in 0..128u32 {
+        if let Some(place) = place_of(cell) {
+            show_pair(rt, cell, place, store.as_bytes())?;
+        }
+    }
+    println!(rt; "")?;
+    show_again(rt, &ImageStore::new(store.into_bytes()))
+}
+
+fn introduce_cells(rt: &HostRuntime) -> io::Result<()> {
     println!(rt; "3. Parameter cells in an image of bytes")?;
     println!(rt; "")?;
     println!(rt;
@@ -162,27 +182,16 @@ fn keep_cells(rt: &HostRuntime) -> io::Result<()> {
     println!(rt;
         "cell, and then the contents, every number high byte first. The cells that are there:"
     )?;
-    println!(rt; "")?;
-    let mut store = ImageStore::new(vec![in rt.alloc(); 0u8; 200]?);
-    if let Some(name) = Text::new(b"HALL-B-Q7") {
-        store.set(1, Stored::Text(name));
-    }
-    store.set(11, Stored::Number(5_000_000));
-    if keep_number(&mut store, 100, -2).is_err() {
-        return println!(rt; "  The image does not fit its 200 bytes.");
-    }
-    for cell in 0..128u32 {
-        if let Some(place) = place_of(cell) {
-            show_pair(rt, cell, place, store.as_bytes())?;
-        }
-    }
-    let again = ImageStore::new(store.into_bytes());
-    println!(rt; "")?;
+    println!(rt; "")
+}
+
+// What a store over the saved bytes reads back.
+fn show_again(rt: &HostRuntime, again: &ImageStore) -> io::Result<()> {
     println!(rt; "A second store over the same bytes reads them back:")?;
     let identification = again
         .get(1)
         .and_then(Stored::text)
-        .unwrap_or(Text::absent());
+        .unwrap_or_else(Text::absent);
     let highest = again.get(11).and_then(Stored::number).unwrap_or(0);
     let operator = again.get(100).and_then(Stored::number).unwrap_or(0);
     println!(rt;
@@ -210,9 +219,10 @@ fn show_pair(rt: &HostRuntime, cell: u32, place: usize, bytes: &[u8]) -> io::Res
     println!(rt; "")
 }
 
-// The number of two bytes, high byte first; a byte past the end counts 0.
+// The number of two bytes, high byte first; a byte past the end counts 0. The image's own reading asks that both bytes
+// are there, which a program that shows any bytes cannot promise.
 fn number_at(bytes: &[u8], i: usize) -> usize {
-    u16::from_be_bytes([byte_at(bytes, i), byte_at(bytes, i.saturating_add(1))]) as usize
+    usize::from(u16::from_be_bytes([byte_at(bytes, i), byte_at(bytes, i.saturating_add(1))]))
 }
 
 fn byte_at(bytes: &[u8], i: usize) -> u8 {

@@ -1,5 +1,6 @@
 // A setpoint as somebody typed it: what it stands for, or where and why it is refused.
 ghost use Rattle.std.specs.Prelude.{◌≡◌, ◌≤◌, length};
+ghost use Rattle.grammar.specs.Numbers.{LongestBeginning};
 ghost use Rattle.tour.specs.Verdicts.{has_point, Faulty, Assessed};
 
 use grammar::{Quantity, Text, number_prefix, print_number, read_number};
@@ -47,18 +48,22 @@ pub struct Refused {
 pub fn assess(typed: &[u8]) -> Result<Taken, Refused>
     ensures cases { Assessed typed.now result }
 {
-    match read_number(typed) {
-        Some(quantity) => Ok(Taken {
-            quantity,
-            printed: print_number(quantity),
-        }),
-        None => {
-            let at = number_prefix(typed);
-            Err(Refused {
-                at,
-                fault: fault_at(typed, at),
-            })
-        }
+    let quantity = read_number(typed).ok_or_else(|| refusal_of(typed))?;
+    Ok(Taken {
+        quantity,
+        printed: print_number(quantity),
+    })
+}
+
+// Where bytes that are no number stop being one, and why.
+fn refusal_of(typed: &[u8]) -> Refused
+    ensures at { LongestBeginning typed.now result.at }
+    ensures fault { Faulty typed.now result.at result.fault }
+{
+    let at = number_prefix(typed);
+    Refused {
+        at,
+        fault: fault_at(typed, at),
     }
 }
 
@@ -67,13 +72,13 @@ fn fault_at(typed: &[u8], at: usize) -> Fault
     requires { at ≤ length typed.now }
     ensures cases { Faulty typed.now at result }
 {
-    if at == typed.len() {
+    let Some(byte) = typed.get(at) else {
         return Fault::EndsEarly;
-    }
-    if !typed[at].is_ascii_digit() {
+    };
+    if !byte.is_ascii_digit() {
         return Fault::OtherByte;
     }
-    if has_point(&typed[0..at]) {
+    if has_point(&typed[..at]) {
         Fault::Decimal
     } else {
         Fault::WholeDigit

@@ -184,7 +184,7 @@ fn usual() -> Circumstances {
         origin: Origin::Socket,
         control: Control::Remote,
         access: Access::User,
-        password: Text::new(b"PS-ADMIN").unwrap_or(Text::absent()),
+        password: Text::new(b"PS-ADMIN").unwrap(),
         tripped: false,
         on: false,
         present: Loop::I,

@@ -1,5 +1,5 @@
 // Reading and writing the cells of an array.
-ghost use Rattle.std.specs.Prelude.{◌≡◌, ◌<◌, true, false, ◌&&◌, replicate, is_ok, if◌then◌else◌, MatchOption, nat_lt, slice_index_or, slice_set};
+ghost use Rattle.std.specs.Prelude.{◌≡◌, ◌<◌, true, false, ◌&&◌, None, replicate, is_ok, if◌then◌else◌, MatchOption, nat_lt, slice_index_or, slice_set};
 ghost use Rattle.cells.specs.Contents.{at, put, takes};
 ghost use Rattle.cells.specs.Directory.{kinds, place};
 ghost use Rattle.cells.specs.Kinded.{fits, kinded, values_in};
@@ -22,11 +22,13 @@ impl CellArray {
         }
     }
 
-    // What a cell holds; none for what is no cell.
+    // What a cell holds; none for an absent one, and for what is no cell. A text of no bytes, which a slot may hold,
+    // stands for no value.
     pub fn get(&self, cell: u32) -> Option<Stored>
         ensures value { slot_of result ≡ at (values_in self.now.slots) cell }
+        ensures none { at (values_in self.now.slots) cell ≡ absent → result ≡ None }
     {
-        self.slots[place_of(cell)?]
+        self.slots[place_of(cell)?].filter(|value| !value.is_absent())
     }
 
     // Puts a value into a cell; into no cell, or one of another kind, it does nothing.

@@ -34,6 +34,7 @@ impl<const N: usize> Bytes<N> {
         ensures value { result.now ≡ bytes_of self.now }
         ensures bound { length result.now ≤ N }
     {
+        // A part of an array of N is taken through a slice of the whole.
         let whole = &self.bytes[..];
         &whole[0..self.len]
     }
@@ -72,6 +73,7 @@ impl<const N: usize> Bytes<N> {
         ensures bytes { bytes_of self.new ≡ bytes_of self.old ++ more.now }
     {
         let end = self.len + more.len();
+        // Through a slice of the whole, as in `as_bytes`.
         let whole = &mut self.bytes[..];
         whole[self.len..end].copy_from_slice(more);
         self.len = end;

@@ -2,7 +2,8 @@
 ghost use Rattle.std.specs.Prelude.{◌≡◌, ◌+◌, ◌-◌, ◌*◌, ◌^◌, ◌<◌, ◌≤◌, MatchOption};
 
 // `count` digits stand on this side, MOST are the most, and the most that may stand before this side are BEFORE.
-// `n` is the number that all digits write so far: there are no more of them than it can hold.
+// `n` is the number that all digits write so far. It is below ten to the power of the digits that may stand by now:
+// BEFORE, and the `count` of this side.
 #[derive(Clone, Copy)]
 pub(crate) struct Digits<const BEFORE: usize, const MOST: usize> {
     pub(crate) minus: bool,
@@ -24,7 +25,7 @@ impl<const BEFORE: usize, const MOST: usize> Digits<BEFORE, MOST> {
         Some(Digits {
             minus: self.minus,
             count: self.count + 1,
-            n: self.n * 10 + (c - b'0') as u64,
+            n: self.n * 10 + u64::from(c - b'0'),
         })
     }
 }

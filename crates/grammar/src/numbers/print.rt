@@ -34,6 +34,7 @@ fn print_parts(minus: bool, whole: u64, fraction: u64) -> Text
     text
 }
 
+// A minus, or nothing. Room is asked for: see Bytes::push.
 fn push_sign(text: &mut Text, minus: bool)
     requires { length (bytes_of text.old) < 24 }
     ensures bytes { bytes_of text.new ≡ bytes_of text.old ++ sign_text minus }
@@ -43,7 +44,7 @@ fn push_sign(text: &mut Text, minus: bool)
     }
 }
 
-// A point and the decimals that are shown of `n` millionths; nothing where none is.
+// A point and the decimals that are shown of `n` millionths; nothing where none is. Room: see Bytes::push.
 fn push_shown(text: &mut Text, n: u64)
     requires { length (bytes_of text.old) + 7 ≤ 24 }
     ensures bytes { bytes_of text.new ≡ bytes_of text.old ++ pointed (shown n) }
@@ -52,6 +53,7 @@ fn push_shown(text: &mut Text, n: u64)
 }
 
 // A point and the last `k` digits of `n` without trailing zeros; nothing where none is left.
+// Room: see Bytes::push. Written out: see push_digits.
 fn push_trimmed(text: &mut Text, k: usize, n: u64)
     requires { length (bytes_of text.old) + 1 + k ≤ 24 }
     ensures bytes { bytes_of text.new ≡ bytes_of text.old ++ pointed (trimmed k n) }
@@ -66,7 +68,7 @@ fn push_trimmed(text: &mut Text, k: usize, n: u64)
     push_places(text, k, n);
 }
 
-// The last `k` digits of `n`, with leading zeros.
+// The last `k` digits of `n`, with leading zeros. Room: see Bytes::push. Written out: see push_digits.
 fn push_places(text: &mut Text, k: usize, n: u64)
     requires { length (bytes_of text.old) + k ≤ 24 }
     ensures bytes { bytes_of text.new ≡ bytes_of text.old ++ places k n }

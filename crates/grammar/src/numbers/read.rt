@@ -19,6 +19,7 @@ pub fn read_number(text: &[u8]) -> Option<Quantity>
 }
 
 // How many of these bytes some number begins with: where they stop being one, for an error message.
+// A loop: the place at which it stops is wanted, and a closure that changes what it captured tells the proof nothing.
 pub fn number_prefix(text: &[u8]) -> usize
     ensures value { LongestBeginning text.now result }
 {

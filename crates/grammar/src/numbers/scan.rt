@@ -67,7 +67,7 @@ impl Scan {
             Scan::Start => Some(Scan::Whole(Digits {
                 minus: false,
                 count: 1,
-                n: (c - b'0') as u64,
+                n: u64::from(c - b'0'),
             })),
             Scan::Whole(digits) => Some(Scan::Whole(digits.more(c)?)),
             Scan::Fraction(digits) => Some(Scan::Fraction(digits.more(c)?)),

@@ -27,7 +27,8 @@ impl Magnet {
         })
     }
 
-    // So many milliseconds. The recording's has the same loop and a contract in its own words, so one for both is no plainer.
+    // So many milliseconds. The recording has such a function too.
+    // The two have contracts of their own, so one function for both would be no plainer.
     pub fn advance_by(&mut self, n: u32)
         ensures after { magnet_meaning self.new ≡ advanced (magnet_meaning self.old) (readings_at (moved_by n (goal (magnet_meaning self.old)) self.old.plant.current.millionths)) }
         ensures run { Approaches (goal (magnet_meaning self.old)) self.old.plant.current.millionths }
@@ -40,11 +41,11 @@ impl Magnet {
 
 impl Current {
     // The current to which a magnet moves at this setting: 0 while off, since the demand is then 0.
-    fn goal(told: Setting) -> Current
-        ensures value { result.millionths ≡ goal_from told.on told.chosen told.demand.millionths }
+    fn goal(setting: Setting) -> Current
+        ensures value { result.millionths ≡ goal_from setting.on setting.chosen setting.demand.millionths }
     {
-        let demand = told.demand.millionths();
-        let millionths = match told.chosen {
+        let demand = setting.demand.millionths();
+        let millionths = match setting.chosen {
             Loop::I => demand,
             Loop::V => demand / 2,
         };
@@ -61,7 +62,7 @@ impl Current {
     }
 
     // The temperature of the coil at this current, in millionths of a degree Celsius.
-    fn heat(self) -> u64
+    fn temperature(self) -> u64
         ensures value { result ≡ heat self.millionths }
     {
         25_000_000 + 3 * self.millionths.unsigned_abs()
@@ -82,18 +83,18 @@ impl Plant for Coil {
 
     ghost readings = { coil_readings };
 
-    ghost steps = { λ told a b. b.current.millionths ≡ moved (goal_from told.on told.chosen told.demand.millionths) a.current.millionths };
+    ghost steps = { λ setting a b. b.current.millionths ≡ moved (goal_from setting.on setting.chosen setting.demand.millionths) a.current.millionths };
 
     ghost counted = { Prim.search rules };
 
     ghost sound = { Prim.search rules };
 
-    fn advance(&mut self, told: Setting) {
-        self.current = self.current.towards(Current::goal(told));
+    fn advance(&mut self, setting: Setting) {
+        self.current = self.current.towards(Current::goal(setting));
     }
 
     fn lines(&self) -> u32 {
-        if self.current.heat() > HOTTEST {
+        if self.current.temperature() > HOTTEST {
             HEAT_LINE
         } else {
             0
@@ -110,7 +111,7 @@ impl Plant for Coil {
 
     fn temperature(&self, sensor: u8) -> Quantity {
         if sensor == 1 {
-            Quantity::clamped(self.current.heat() as i64)
+            Quantity::clamped(self.current.temperature() as i64)
         } else {
             Quantity::clamped(0)
         }

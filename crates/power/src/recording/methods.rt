@@ -33,7 +33,8 @@ impl Recording {
         Supply::with_plant(Tape { records, place: 0 })
     }
 
-    // So many milliseconds. As the magnet's, with what it says of records and places.
+    // So many milliseconds. The magnet has such a function too.
+    // The two have contracts of their own, so one function for both would be no plainer.
     pub fn advance_by(&mut self, n: u32)
         ensures items { records_of self.new ≡ records_of self.old }
         ensures run { place_of self.new ≡ place_after (records_of self.old) (place_of self.old) n }
@@ -54,7 +55,7 @@ impl Tape {
     }
 }
 
-// A tape lets no line but the trip lines through, and keeps every quantity in range.
+// Only the trip lines are shown, and each quantity is clamped.
 impl Plant for Tape {
     const SENSORS: u8 = 4;
 
@@ -62,14 +63,14 @@ impl Plant for Tape {
 
     ghost readings = { tape_readings };
 
-    ghost steps = { λ told a b. (vec_items b.records ≡ vec_items a.records) × (b.place ≡ place_after (vec_items a.records) a.place 1) };
+    ghost steps = { λ setting a b. (vec_items b.records ≡ vec_items a.records) × (b.place ≡ place_after (vec_items a.records) a.place 1) };
 
     ghost counted = { Prim.search rules };
 
     ghost sound = { λ t. kept-sound (slice_index_or (blank ∷ vec_items t.records) t.place blank) };
 
     // The next record, or the last one again.
-    fn advance(&mut self, _told: Setting) {
+    fn advance(&mut self, _setting: Setting) {
         if self.place < self.records.len() {
             self.place += 1;
         }
@@ -88,10 +89,10 @@ impl Plant for Tape {
     }
 
     fn temperature(&self, sensor: u8) -> Quantity {
-        let Some(before) = sensor.checked_sub(1) else {
-            return Quantity::clamped(0);
-        };
-        let reading = self.shown().temperatures.get(usize::from(before)).copied();
+        let temperatures = self.shown().temperatures;
+        let reading = sensor
+            .checked_sub(1)
+            .and_then(|i| temperatures.get(usize::from(i)).copied());
         Quantity::clamped(reading.unwrap_or(0))
     }
 }

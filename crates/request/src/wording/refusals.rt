@@ -1,11 +1,12 @@
-// Why a line or a call is refused.
+// Why a line is refused.
 ghost use Rattle.std.specs.Prelude.{◌<◌, length};
 
-use crate::refusals::{CallRefusal, LineRefusal};
+use crate::refusals::LineRefusal;
 use std::error::Error;
 use std::fmt;
 
 impl LineRefusal {
+    // Kept as a function beside Display, because it carries the promise that a reason is never empty.
     pub fn reason(self) -> &'static str
         ensures told { 0 < length result.now }
     {
@@ -41,15 +42,3 @@ impl fmt::Display for LineRefusal {
 }
 
 impl Error for LineRefusal {}
-
-impl fmt::Display for CallRefusal {
-    fn fmt<W: fmt::Write>(&self, f: &mut fmt::Formatter<W>) -> fmt::Result {
-        f.write_str(match self {
-            CallRefusal::LongDatagram => "the datagram has more than 8,192 bytes",
-            CallRefusal::NoSuchSeat => "there is no such seat",
-            CallRefusal::ShortOutput => "the output has fewer than 64 bytes for each line",
-        })
-    }
-}
-
-impl Error for CallRefusal {}

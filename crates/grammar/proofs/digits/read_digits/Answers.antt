@@ -19,16 +19,10 @@ returns-then-text-most c = record {
 }
 
 pub overflow_mul-n : goal.overflow_mul-n
-overflow_mul-n c =
-    let s = one-more c.args.base.value c.args.most c.args.text.now c.loop-c.c-index c.loop-c.n c.in_ok-d.d c.args.base.least (c.loop-c-test.true) (c.if-text-most.false) c.requires c.loop-c.invariant c.in_ok-d.ensures.cases in
-    let f = s.fits in
-    omega arith
+overflow_mul-n c = let f = (one-more c.args.text.now c.args.base.least c.loop-c-test.true c.if-text-most.false c.requires c.loop-c.invariant c.in_ok-d.ensures.cases).fits in omega arith
 
 pub overflow_add-n : goal.overflow_add-n
-overflow_add-n c =
-    let s = one-more c.args.base.value c.args.most c.args.text.now c.loop-c.c-index c.loop-c.n c.in_ok-d.d c.args.base.least (c.loop-c-test.true) (c.if-text-most.false) c.requires c.loop-c.invariant c.in_ok-d.ensures.cases in
-    let f = s.fits in
-    omega arith
+overflow_add-n c = let f = (one-more c.args.text.now c.args.base.least c.loop-c-test.true c.if-text-most.false c.requires c.loop-c.invariant c.in_ok-d.ensures.cases).fits in omega arith
 
 pub returns-in_err-d : goal.returns-in_err-d
 returns-in_err-d c =
@@ -40,9 +34,7 @@ returns-in_err-d c =
     }
 
 pub loop-c-preserved : goal.loop-c-preserved
-loop-c-preserved c =
-    let s = one-more c.args.base.value c.args.most c.args.text.now c.loop-c.c-index c.loop-c.n c.in_ok-d.d c.args.base.least (c.loop-c-test.true) (c.if-text-most.false) c.requires c.loop-c.invariant c.in_ok-d.ensures.cases in
-    (s.size, s.digits)
+loop-c-preserved c = let s = one-more c.args.text.now c.args.base.least c.loop-c-test.true c.if-text-most.false c.requires c.loop-c.invariant c.in_ok-d.ensures.cases in (s.size, s.digits)
 
 pub returns : goal.returns
 returns c =

@@ -1,18 +1,22 @@
-use Rattle.std.proofs.Common.{◌≡◌, ℕ, List, drop, sym, ap, ◌∙◌}
+use Rattle.std.proofs.Common.{rules, ap, ◌∙◌, tests, refl, eqb}
 use Rattle.std.proofs.lemmas.List.{drop-drop}
-use Rattle.grammar.specs.Fields.{field, fields, fields_after}
-use Rattle.grammar.proofs.Splits.{fields-exactly, field-after}
+use Rattle.std.proofs.lemmas.Iterator.Splits.{YieldsList-from_slice_split}
+use Rattle.std.proofs.lemmas.Iterator.Consumers.{count_from_yields_List}
+use Rattle.grammar.specs.Fields.{fields}
+use Rattle.grammar.proofs.Splits.{fields-exactly, given-field, field-after}
 use Rattle.grammar.proofs.fields.split_fields.Goals as goal
 
 pub returns : goal.returns
+unfolding fields
 returns c =
-    let line : List ℕ = c.args.line.now in
-    let one : fields_after c.split_first.result.1 ≡ drop 1 (fields line) = ap (drop 1) (sym c.split_first.ensures.value) in
-    let two : fields_after c.split_next.result.1 ≡ drop 2 (fields line) = c.split_next.ensures.others ∙ ap (drop 1) one ∙ drop-drop 1 1 (fields line) in
+    let one = given-field c.split-fields.result c.next.new.self c.next.result _ _ c.next.ensures.steps (λ s t k. k.1) refl
+    (YieldsList-from_slice_split _ (λ b. eqb b 58) c.args.line.now c.split-fields.ensures.rest c.split-fields.ensures.done c.split-fields.ensures.closure (λ x r q k. search (rules, tests))) in
+    let two = given-field _ c.next-2.new.self c.next-2.result _ _ c.next-2.ensures.steps (λ s t k. k.1) refl one.1 in
+    let three = given-field _ c.next-3.new.self c.next-3.result _ _ c.next-3.ensures.steps (λ s t k. k.1) refl two.1 in
     record {
-      first = ap (field 0) (sym c.split_first.ensures.value);
-      second = c.split_next.ensures.first ∙ field-after 1 (fields line) _ one;
-      third = c.split_next-2.ensures.first ∙ field-after 2 (fields line) _ two;
-      len = c.count_fields.ensures.value;
-      exact = fields-exactly line;
+      first = ap (λ s. s.now) c.unwrap_or.ensures ∙ one.0;
+      second = ap (λ s. s.now) c.unwrap_or-2.ensures ∙ two.0 ∙ field-after 1 (fields c.args.line.now) _ refl;
+      third = ap (λ s. s.now) c.unwrap_or-3.ensures ∙ three.0 ∙ field-after 2 (fields c.args.line.now) _ (drop-drop 1 1 (fields c.args.line.now));
+      len = count_from_yields_List _ _ c.count.ensures.ran (YieldsList-from_slice_split _ (λ b. eqb b 58) c.args.line.now c.split.ensures.rest c.split.ensures.done c.split.ensures.closure (λ x r q k. search (rules, tests)));
+      exact = fields-exactly c.args.line.now;
     }

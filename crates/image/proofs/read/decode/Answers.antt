@@ -1,14 +1,14 @@
-use Rattle.std.proofs.Common.{◌≡◌, ◌+◌, List, length, get_or, take, drop, set, Some, sym, ap, ◌∙◌, subst, arith}
+use Rattle.std.proofs.Common.{◌≡◌, ◌+◌, List, length, get_or, take, drop, set, Some, sym, refl, ap, ◌∙◌, subst, arith}
 use Rattle.std.proofs.lemmas.List.{take_rest, length-take-le, length-drop}
 use Rattle.cells.specs.Directory.{kinds}
-use Rattle.cells.proofs.Listed.{listed_length}
+use Rattle.cells.proofs.Listed.{listed_length, listed_kind}
 use Rattle.cells.specs.Kinded.{values_in}
 use Rattle.cells.specs.Values.{Value, slot_of}
 use Rattle.cells.specs.declared.roles.Kind.{Kind}
 use Rattle.cells.specs.declared.roles.Kind.TheVariants.{Number}
 use Rattle.cells.specs.Sorts.{kinds-39, values-39}
 use Rattle.image.specs.Image.{value_in, Pair}
-use Rattle.image.proofs.Reading.{onto, rest, rest_more, rest_all, decoded-at, kind-at, pair_is}
+use Rattle.image.proofs.Reading.{onto, rest, rest_more, rest_all, decoded-at, pair_is}
 use Rattle.image.proofs.read.decode.Goals as goal
 
 pub loop-i-preserved : goal.loop-i-preserved
@@ -18,7 +18,7 @@ loop-i-preserved c =
     let at = c.loop-i.at in
     let n = c.read.result.size in
     let us : List Value = values_in c.loop-i.cells.slots in
-    let kind = kind-at c.all_roles-roles.result.now i c.kind-kind.result c.all_roles-roles.ensures.value c.loop-i-test.true c.kind-kind.ensures.value in
+    let kind = c.kind-kind.ensures.value ∙ listed_kind c.all_roles-roles.result.now i _ _ c.all_roles-roles.ensures.value refl c.loop-i-test.true in
     let pair : Pair (get_or kinds i Number) i at n bs = subst (λ (k : Kind). Pair k i at n bs) kind (pair_is c.kind-kind.result bs i at c.read.result.offset n c.read.ensures.offset c.read.ensures.size c.loop-i.invariant.1 c.in_ok-content.ensures.cases.0) in
     let content : c.in_ok-content.content.now ≡ take n (drop at bs) = c.in_ok-content.ensures.cases.1 ∙ ap (take n) (take_rest bs at) in
     let size : length c.in_ok-content.content.now ≡ n = ap length content ∙ length-take-le n (drop at bs) (omega (arith, pair.within, length-drop at bs)) in

@@ -4,6 +4,8 @@ use Rattle.std.proofs.lemmas.Iterator.Consumers.{YieldsList-at, sum_by_from_yiel
 use Rattle.image.proofs.Writing.{size_in, sizes-contents, contents-352}
 use Rattle.image.proofs.write.contents_len.Goals as goal
 
+-- Both answers have the chain. Tried as one lemma: no proof, since its statement has to name steps of iterators that only
+-- the library itself can name.
 pub sum-requires-clause-fits : goal.sum-requires-clause-fits
 sum-requires-clause-fits c =
     let xs = c.args.cells.now.slots in

@@ -1,4 +1,4 @@
-use Rattle.std.proofs.Common.{ℕ, List, Ok, Err, Result, ◌∙◌, arith}
+use Rattle.std.proofs.Common.{ℕ, List, Some, None, Ok, Err, Option, Result, ◌≡◌, ◌∙◌, arith}
 use Rattle.std.proofs.lemmas.Result.{err_from_is_err_and}
 use Rattle.request.specs.Facts.{Facts, facts_of}
 use Rattle.request.specs.Grounds.{Reads, line_refusal}
@@ -11,10 +11,13 @@ use Rattle.request.proofs.Law.{in_order}
 use Rattle.request.proofs.Order.{by-line, by-request}
 use Rattle.judging.proofs.judgement.judge.Goals as goal
 
+pub never_both : {X : Type 0} (o : Option LineRefusal) (n : LineRefusal) → o ≡ None → o ≡ Some n → X
+never_both o n e d = absurd (grind arith)
+
 -- the order of the grounds, given what was read of the line
 order : (c : Facts) (bytes : List ℕ) (r : Result Request LineRefusal) → Reads request_of (line_refusal c.sensors (parsed bytes)) (asked (parsed bytes)) r → InOrder c bytes
 order c bytes (Ok q) h = in_order c bytes (λ e. (request_of q, h.1))
-order c bytes (Err n) h = in_order c bytes (λ e. absurd (grind (arith, h, e)))
+order c bytes (Err n) h = in_order c bytes (λ e. never_both _ n e h)
 
 pub returns-in_err-request : goal.returns-in_err-request
 returns-in_err-request c =

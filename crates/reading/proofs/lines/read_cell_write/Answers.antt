@@ -7,6 +7,7 @@ use Rattle.request.specs.declared.requests.Cell.{Cell}
 use Rattle.reading.proofs.lines.read_cell_write.Goals as goal
 
 -- once the cell is found, the grounds on its value are left
+-- `e` and `d` stand in both answers: tried one lemma from the four facts, which proves and is longer
 by_value : (n : ℕ) (f g : List ℕ) (k : ℕ) (c : Cell) → index_of f ≡ Some k → cell_at k ≡ Some c → field_refusal 0 Mwg n f g ≡ value_refusal c.role g
 by_value n f g k c e d = simp (e, d, or-false)
 
