@@ -8,5 +8,4 @@ pub mod Alike
 pub mod Reading
 pub mod Plain
 pub mod Splits
-pub mod Writes
 pub mod Screen

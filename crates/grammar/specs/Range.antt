@@ -8,14 +8,14 @@ least = negsuc 9999999998
 abbrev pub most : ℤ
 most = pos 9999999999
 
+-- from one number to another, ends included
+abbrev pub spans : ℤ → ℤ → ℤ → Bool
+spans low high v = int_le low v && int_le v high
+
 -- both ends are in the range
 abbrev pub in_range : ℤ → Bool
-in_range v = int_le least v && int_le v most
+in_range v = spans least most v
 
 -- the nearest number that is in the range
 abbrev pub clamp : ℤ → ℤ
 clamp v = int_max least (int_min most v)
-
--- from one number to another, ends included
-abbrev pub spans : ℤ → ℤ → ℤ → Bool
-spans low high v = int_le low v && int_le v high

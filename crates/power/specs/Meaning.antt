@@ -1,6 +1,6 @@
 -- What a power module means. Assumes nothing.
-use Rattle.std.specs.Prelude.{◌≡◌, ℕ, zero, suc, ◌≤◌, Bool, true, false, cond, not, ◌&&◌, List, length, ℤ, pos, ◌≤ℤ◌, bit_and, int_le, slice_index_or}
-use Rattle.grammar.specs.Range.{least, most}
+use Rattle.std.specs.Prelude.{◌≡◌, ℕ, zero, suc, ◌≤◌, Bool, true, false, cond, not, ◌&&◌, List, length, ℤ, pos, ◌≤ℤ◌, bit_and, slice_index_or}
+use Rattle.grammar.specs.Range.{least, most, spans}
 use Rattle.std.specs.List.{AllByRecursion}
 use Rattle.power.specs.declared.loops.Loop.{Loop}
 use Rattle.power.specs.declared.loops.Loop.TheVariants.{I, V}
@@ -95,7 +95,7 @@ chosen m l = record { on = m.on; loop = cond (may_choose m) l m.loop; demand = m
 
 -- the rated span of a loop, its ends inside
 abbrev pub rated : Ratings → Loop → ℤ → Bool
-rated r l v = int_le (low r l) v && int_le v (high r l)
+rated r l v = spans (low r l) (high r l) v
 
 -- a demand is applied exactly while on and inside the rated span of the present loop
 abbrev pub applies : Meaning → ℤ → Bool
