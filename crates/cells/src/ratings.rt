@@ -1,5 +1,5 @@
 // The rated spans of a power module, as plain values.
-use grammar::Span;
+pub use grammar::Span;
 
 #[derive(Clone, Copy)]
 pub struct Ratings {

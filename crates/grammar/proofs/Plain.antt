@@ -15,7 +15,7 @@ byte-decides c = (
 bytes_decides : (bs : List ℕ) → Decides (list_all text_byte bs) (AllByRecursion TextByte bs)
 bytes_decides bs = Decides-by_and text_byte TextByte (list_all text_byte) byte-decides refl (λ _ _. refl) bs
 
-text-decides : (bs : List ℕ) → Decides (is_text bs) (IsText bs)
+pub text-decides : (bs : List ℕ) → Decides (is_text bs) (IsText bs)
 text-decides bs = (
   λ e. let p = and_parts (leb 1 (length bs)) (leb (length bs) 24 && list_all text_byte bs) e in
       let q = and_parts (leb (length bs) 24) (list_all text_byte bs) p.1 in

@@ -1,5 +1,5 @@
 // The fields of a line, which is split at its colons.
-ghost use Rattle.std.specs.Prelude.{◌≡◌, length};
+ghost use Rattle.std.specs.Prelude.{◌≡◌, ◌≤◌, ◌==◌, length, count_by};
 ghost use Rattle.grammar.specs.Fields.{fields, field, ExactFields};
 
 // The first three fields of a line, empty where it has fewer, and how many it has in all:
@@ -25,6 +25,15 @@ pub fn split_fields(line: &[u8]) -> Fields<'_>
         first: fields.next().unwrap_or(b""),
         second: fields.next().unwrap_or(b""),
         third: fields.next().unwrap_or(b""),
-        count: line.split(|b| *b == b':').count(),
+        count: count_colons(line) + 1,
     }
+}
+
+// How many colons a line has: a field ends at each, and one more at the end of the line. As a sum, since a line may be
+// all colons: counting what a filter lets pass, or the parts of a split, takes more than twice the time there.
+fn count_colons(line: &[u8]) -> usize
+    ensures value { result ≡ count_by (λ c. c == 58) line.now }
+    ensures bound { result ≤ length line.now }
+{
+    line.iter().map(|b| usize::from(*b == b':')).sum()
 }

@@ -8,9 +8,6 @@ use Rattle.cells.specs.declared.roles.Kind.{Kind}
 use Rattle.cells.specs.declared.roles.Kind.TheVariants.{Number}
 use Rattle.cells.specs.Sorts.{kinds-39, values-39}
 use Rattle.cells.proofs.Listed.{listed_length, listed_kind}
-use Rattle.cells.specs.Kinded.{values_in}
-use Rattle.cells.specs.declared.array.CellArray.{CellArray}
-use Rattle.std.specs.Option.{option_map, unwrap_or}
 
 pub from16-drop : (bs : List ℕ) (n j : ℕ) → from16 (drop n bs) j ≡ from16 bs (n + j)
 from16-drop bs n j =
@@ -88,11 +85,6 @@ decoded-at ks bs n o e l h =
 
 pub decoded-less : (ks : List Kind) (bs : List ℕ) (n : ℕ) → length ks ≡ n → length bs < 4 * n → decoded ks bs ≡ replicate n absent
 decoded-less ks bs n e l = decoded-short ks bs (omega (arith, e)) ∙ ap (λ (m : ℕ). replicate m absent) e
-
--- an array that was read, or one with all absent
-pub read_or_absent : (o : Option CellArray) (d : CellArray) → values_in d.slots ≡ replicate 39 absent → values_in (unwrap_or o d).slots ≡ or_absent 39 (option_map (λ (c : CellArray). values_in c.slots) o)
-read_or_absent None d e = e
-read_or_absent (Some c) d e = refl
 
 -- what the loop over the pairs uses
 pub ruleset reading = (listed_length, listed_kind, lawful-is, pair_is, rest_more, rest-stop, rest_all, decoded-at, decoded-less, kinds-39, values-39, take_rest, and_from, lt-ltb)

@@ -1,9 +1,9 @@
 // Reading the image of cells.
-ghost use Rattle.std.specs.Prelude.{◌≡◌, ◌+◌, ◌*◌, ◌<◌, ◌≤◌, true, false, length, take, MatchOption};
+ghost use Rattle.std.specs.Prelude.{◌≡◌, ◌+◌, ◌*◌, ◌<◌, ◌≤◌, true, false, length, replicate, take, MatchOption};
 ghost use Rattle.std.specs.Option.{option_map};
 ghost use Rattle.cells.specs.Directory.{kinds};
 ghost use Rattle.cells.specs.Kinded.{fits, values_in};
-ghost use Rattle.cells.specs.Values.{slot_of};
+ghost use Rattle.cells.specs.Values.{absent, slot_of};
 ghost use Rattle.image.specs.Image.{from16, sized, value_in, agrees, or_absent, decoded, Means};
 
 use crate::write::CONTENTS;
@@ -15,19 +15,33 @@ pub(crate) fn read_cells(bytes: &[u8]) -> CellArray
     ensures value { values_in result.slots ≡ decoded kinds bytes.now }
     ensures exact { Means kinds bytes.now (values_in result.slots) }
 {
-    decode(bytes).unwrap_or(CellArray::absent())
+    decode(bytes)
 }
 
-// The cells with whose image the bytes begin; none where there are none such.
+// As `read_cells`, but for the law.
 #[tactic(auto, using(crate::proofs::Reading::reading))]
-fn decode(bytes: &[u8]) -> Option<CellArray>
-    ensures value { or_absent 39 (option_map (λ c. values_in c.slots) result) ≡ decoded kinds bytes.now }
+fn decode(bytes: &[u8]) -> CellArray
+    ensures value { values_in result.slots ≡ decoded kinds bytes.now }
 {
-    if bytes.len() < CONTENTS {
-        return None;
-    }
-    let roles = all_roles();
     let mut cells = CellArray::absent();
+    if bytes.len() < CONTENTS {
+        return cells;
+    }
+    if decode_into(&mut cells, bytes).is_none() {
+        return CellArray::absent();
+    }
+    cells
+}
+
+// Fills absent cells with those with whose image the bytes begin. Answers none where there are none such; some may then
+// have been filled. In place, since an array of cells is large.
+#[tactic(auto, using(crate::proofs::Reading::reading))]
+fn decode_into(cells: &mut CellArray, bytes: &[u8]) -> Option<()>
+    requires pairs { 156 ≤ length bytes.now }
+    requires blank { values_in cells.old.slots ≡ replicate 39 absent }
+    ensures value { or_absent 39 (option_map (λ _. values_in cells.new.slots) result) ≡ decoded kinds bytes.now }
+{
+    let roles = all_roles();
     let mut at = CONTENTS;
     for (i, role) in roles.iter().enumerate() {
         let kind = role.kind();
@@ -35,7 +49,7 @@ fn decode(bytes: &[u8]) -> Option<CellArray>
         cells.fill(i, read_value(kind, content)).ok()?;
         at += content.len();
     }
-    Some(cells)
+    Some(())
 }
 
 // Where the contents of a cell start, and how many bytes they are.

@@ -1,6 +1,7 @@
 pub mod Asking
 pub mod Bounds
 pub mod Refusals
+pub mod Reasons
 pub mod Commands
 pub mod Forms
 pub mod Requests

@@ -1,5 +1,6 @@
 // The commands and their names.
 ghost use Rattle.std.specs.Prelude.{◌≡◌, ◌≤◌, length, Some};
+ghost use Rattle.std.specs.Option.{option_map};
 ghost use Rattle.request.specs.Commands.{name_of, command_of};
 
 use grammar::same_word;
@@ -59,10 +60,16 @@ impl Command {
     pub fn named(word: &[u8]) -> Option<Command>
         ensures value { result ≡ command_of word.now }
     {
+        Command::entry(word).copied()
+    }
+
+    // The entry of the table that a word names.
+    fn entry(word: &[u8]) -> Option<&'static Command>
+        ensures value { option_map (λ c. c.now) result ≡ command_of word.now }
+    {
         COMMANDS
             .iter()
             .find(|command| same_word(word, command.name()))
-            .copied()
     }
 
     pub fn name(self) -> &'static [u8]

@@ -7,7 +7,7 @@ use std::fmt;
 
 impl<const N: usize> Bytes<N> {
     // The bytes as text, or a note in their place where they are no text.
-    fn shown(&self) -> &str
+    pub fn shown(&self) -> &str
         ensures value { result.now ≡ shown_bytes (bytes_of self.now) }
     {
         std::str::from_utf8(self.as_bytes()).unwrap_or("(not text)")

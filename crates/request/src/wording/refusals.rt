@@ -1,5 +1,6 @@
 // Why a line is refused.
-ghost use Rattle.std.specs.Prelude.{◌<◌, length};
+ghost use Rattle.std.specs.Prelude.{◌≡◌, ◌<◌, length, Some};
+ghost use Rattle.request.specs.Reasons.{reason_text};
 
 use crate::refusals::LineRefusal;
 use std::error::Error;
@@ -8,6 +9,7 @@ use std::fmt;
 impl LineRefusal {
     // Kept as a function beside Display, because it carries the promise that a reason is never empty.
     pub fn reason(self) -> &'static str
+        ensures value { result.now ≡ reason_text self }
         ensures told { 0 < length result.now }
     {
         match self {
@@ -36,6 +38,8 @@ impl LineRefusal {
 }
 
 impl fmt::Display for LineRefusal {
+    ghost output = { λ r. Some (reason_text r) };
+
     fn fmt<W: fmt::Write>(&self, f: &mut fmt::Formatter<W>) -> fmt::Result {
         f.write_str(self.reason())
     }

@@ -1,7 +1,7 @@
-use Rattle.std.proofs.Common.{rules, ap, ◌∙◌, tests, refl, eqb}
+use Rattle.std.proofs.Common.{rules, ap, ◌∙◌, tests, refl, eqb, arith}
 use Rattle.std.proofs.lemmas.List.{drop-drop}
+use Rattle.std.proofs.lemmas.List.Splits.{length-slice_split}
 use Rattle.std.proofs.lemmas.Iterator.Splits.{YieldsList-from_slice_split}
-use Rattle.std.proofs.lemmas.Iterator.Consumers.{count_from_yields_List}
 use Rattle.grammar.specs.Fields.{fields}
 use Rattle.grammar.proofs.Splits.{fields-exactly, given-field, field-after}
 use Rattle.grammar.proofs.fields.split_fields.Goals as goal
@@ -17,6 +17,6 @@ returns c =
       first = ap (λ s. s.now) c.unwrap_or.ensures ∙ one.0;
       second = ap (λ s. s.now) c.unwrap_or-2.ensures ∙ two.0 ∙ field-after 1 (fields c.args.line.now) _ refl;
       third = ap (λ s. s.now) c.unwrap_or-3.ensures ∙ three.0 ∙ field-after 2 (fields c.args.line.now) _ (drop-drop 1 1 (fields c.args.line.now));
-      len = count_from_yields_List _ _ c.count.ensures.ran (YieldsList-from_slice_split _ (λ b. eqb b 58) c.args.line.now c.split.ensures.rest c.split.ensures.done c.split.ensures.closure (λ x r q k. search (rules, tests)));
+      len = omega (arith, c.count_colons.ensures.value, length-slice_split (λ b. eqb b 58) c.args.line.now);
       exact = fields-exactly c.args.line.now;
     }

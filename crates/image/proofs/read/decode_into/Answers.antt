@@ -9,7 +9,7 @@ use Rattle.cells.specs.declared.roles.Kind.TheVariants.{Number}
 use Rattle.cells.specs.Sorts.{kinds-39, values-39}
 use Rattle.image.specs.Image.{value_in, Pair}
 use Rattle.image.proofs.Reading.{onto, rest, rest_more, rest_all, decoded-at, pair_is}
-use Rattle.image.proofs.read.decode.Goals as goal
+use Rattle.image.proofs.read.decode_into.Goals as goal
 
 pub loop-i-preserved : goal.loop-i-preserved
 loop-i-preserved c =
@@ -34,6 +34,6 @@ returns c =
     let us : length (values_in c.loop-i.cells.slots) ≡ 39 = values-39 c.loop-i.cells.slots c.loop-i.cells.kinded in
     let last = listed_length _ c.all_roles-roles.ensures.value in
     record {
-      value = sym (decoded-at kinds c.args.bytes.now 39 (Some (values_in c.loop-i.cells.slots)) kinds-39 c.if-bytes-lt-CONTENTS.false
+      value = sym (decoded-at kinds c.args.bytes.now 39 (Some (values_in c.loop-i.cells.slots)) kinds-39 c.requires.pairs
           (c.loop-i.invariant.0 ∙ rest_all kinds c.args.bytes.now c.loop-i.i c.loop-i.at (values_in c.loop-i.cells.slots) (omega (arith, kinds-39, last, c.loop-i-test.false)) (omega (arith, us, last, c.loop-i-test.false))));
     }

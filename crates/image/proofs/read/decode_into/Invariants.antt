@@ -2,7 +2,7 @@ use Rattle.std.proofs.Common.{◌≡◌, ◌≤◌, length, take}
 use Rattle.cells.specs.Kinded.{values_in}
 use Rattle.cells.specs.Directory.{kinds}
 use Rattle.image.proofs.Reading.{onto, rest}
-use Rattle.image.proofs.read.decode.Given as goal
+use Rattle.image.proofs.read.decode_into.Given as goal
 
 abbrev pub invariant-loop-i : goal.invariant-loop-i
 invariant-loop-i l =
